@@ -1,0 +1,4 @@
+pub mod Cut
+pub mod Decoding
+pub mod Division
+pub mod Ordered

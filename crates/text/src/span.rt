@@ -1,0 +1,14 @@
+// Where in its source a command was written: lines count from 1, columns from 0, and `from` to `to` are bytes.
+use crate::column::StoredColumn;
+use crate::column::StoredColumnDebug;
+use crate::column::StoredColumnPartialEq;
+
+#[derive(Clone, Copy, Debug, PartialEq, Eq)]
+pub struct Span {
+    pub start_line: u32,
+    pub start_col: StoredColumn,
+    pub end_line: u32,
+    pub end_col: StoredColumn,
+    pub from: u32,
+    pub to: u32,
+}
