@@ -1,0 +1,5 @@
+pub mod Held
+pub mod Lookup
+pub mod Sameness
+pub mod Stepping
+pub mod Underway

@@ -1,0 +1,26 @@
+// Reading a record.
+ghost use Rattle.record.specs.Records.{Reads};
+use crate::fault::ReadError;
+use crate::faults::ReadErrorFromAlloc;
+use crate::faults::ReadErrorFromRecord;
+use crate::faults::ReadErrorFromRefused;
+use crate::listing::Listing;
+use crate::reader::Reader;
+use std::alloc::Global;
+
+// Reads a record over its source, once.
+pub fn read<'a>(heap: Global, source: &'a str, record: &'a [u8]) -> Result<Listing, ReadError>
+    ensures { λ r. ⌜ Reads (now (source .entry)) (now («record» .entry)) r ⌝ }
+{
+    let mut entries = Vec::new(heap);
+    let mut reader = Reader::new(source.as_bytes(), record);
+    loop {
+        let entry = reader.next(entries.as_slice())?;
+        entries.push(entry)?;
+        if entry.command.is_end() {
+            reader.finish()?;
+            let source = String::from_str(heap, source)?;
+            return Ok(Listing { source, entries });
+        }
+    }
+}
