@@ -93,11 +93,11 @@ read-from source entries s at skip [] = refused Unfinished at
 read-from source entries s at (suc skip) (b ∷ bs) = read-from source entries s at skip bs
 read-from source entries s at zero (b ∷ bs) =
     elim (turn source entries (s .rows) b bs) [
-      Ok c ↦ elim (is-end c) [
-        true ↦ ended (entries ++ entry s c ∷ []) (s .rows) (at + 1) bs |
-        false ↦ read-from source (entries ++ entry s c ∷ []) (taken (length entries) s c) (at + 1 + width (letter-of c)) (width (letter-of c)) bs
-      ] |
-      Err r ↦ refused r at
+      | Ok c ↦ elim (is-end c) [
+        | true ↦ ended (entries ++ entry s c ∷ []) (s .rows) (at + 1) bs
+        | false ↦ read-from source (entries ++ entry s c ∷ []) (taken (length entries) s c) (at + 1 + width (letter-of c)) (width (letter-of c)) bs
+      ]
+      | Err r ↦ refused r at
     ]
 
 -- reading stops at the first Z

@@ -26,7 +26,10 @@ fn name_operand(operands: &[u8]) -> (Part, &[u8])
     let [high, low, length, rest @ ..] = operands else {
         unreachable()
     };
-    let name = Part { start: two(*high, *low), len: u32::from(*length) };
+    let name = Part {
+        start: two(*high, *low),
+        len: u32::from(*length),
+    };
     (name, rest)
 }
 
@@ -37,7 +40,10 @@ fn text_operand(operands: &[u8]) -> Part
     let [high, low, length_high, length_low, ..] = operands else {
         unreachable()
     };
-    Part { start: two(*high, *low), len: two(*length_high, *length_low) }
+    Part {
+        start: two(*high, *low),
+        len: two(*length_high, *length_low),
+    }
 }
 
 fn number(bytes: &[u8], i: usize) -> u32

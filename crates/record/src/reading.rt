@@ -75,7 +75,11 @@ impl<'a> Reader<'a> {
         ensures { λ r. ⌜ r ≡ stands (now (self .entry) .taken) (standing (now (self .entry)) .rows) ⌝ }
     {
         if self.depth == 0 {
-            if self.taken == 0 { Stands::First } else { Stands::Outside }
+            if self.taken == 0 {
+                Stands::First
+            } else {
+                Stands::Outside
+            }
         } else {
             within(self.nests[self.depth - 1].container)
         }
@@ -87,10 +91,18 @@ impl<'a> Reader<'a> {
         ensures { λ r. ⌜ r ≡ entry (standing (now (self .entry))) command ⌝ }
     {
         if self.depth == 0 {
-            Entry { command, owner: Owner::Body, place: self.body }
+            Entry {
+                command,
+                owner: Owner::Body,
+                place: self.body,
+            }
         } else {
             let nest = self.nests[self.depth - 1];
-            Entry { command, owner: Owner::Container(nest.opener), place: nest.commands }
+            Entry {
+                command,
+                owner: Owner::Container(nest.opener),
+                place: nest.commands,
+            }
         }
     }
 
@@ -113,7 +125,13 @@ impl<'a> Reader<'a> {
     }
 
     // Opens a container where one may stand: its name is to be new, and fewer than 16 open.
-    fn open(&mut self, kind: Container, name: Part, rest: &'a [u8], before: &[Entry]) -> Result<(), Reason>
+    fn open(
+        &mut self,
+        kind: Container,
+        name: Part,
+        rest: &'a [u8],
+        before: &[Entry],
+    ) -> Result<(), Reason>
         requires sound { ⌜ Sound (now self) ⌝ }
         requires shorter { ⌜ length (now rest) < length (now (now self .rest)) ⌝ }
         requires taken { ⌜ now self .taken ≡ length (now before) ⌝ }
@@ -127,7 +145,11 @@ impl<'a> Reader<'a> {
         }
         let opener = self.taken;
         self.count(rest);
-        self.nests[self.depth] = Nest { container: kind, opener, commands: 0 };
+        self.nests[self.depth] = Nest {
+            container: kind,
+            opener,
+            commands: 0,
+        };
         self.depth += 1;
         Ok(())
     }
@@ -249,7 +271,10 @@ impl<'a> Reader<'a> {
     {
         if self.depth > 0 || self.rest.len() > 0 {
             let at = self.position();
-            return Err(RecordFault { reason: Reason::Unfinished, at });
+            return Err(RecordFault {
+                reason: Reason::Unfinished,
+                at,
+            });
         }
         Ok(())
     }
@@ -257,7 +282,20 @@ impl<'a> Reader<'a> {
     pub(crate) fn new(source: &'a [u8], bytes: &'a [u8]) -> Reader<'a>
         ensures { λ r. ⌜ Fresh (now (source .entry)) (now (bytes .entry)) r ⌝ }
     {
-        let unused = Nest { container: Container::Block, opener: 0, commands: 0 };
-        Reader { source, lines: line_count(source), bytes, rest: bytes, nests: [unused; 16], depth: 0, body: 0, taken: 0 }
+        let unused = Nest {
+            container: Container::Block,
+            opener: 0,
+            commands: 0,
+        };
+        Reader {
+            source,
+            lines: line_count(source),
+            bytes,
+            rest: bytes,
+            nests: [unused; 16],
+            depth: 0,
+            body: 0,
+            taken: 0,
+        }
     }
 }

@@ -1,5 +1,5 @@
 // Reading a record.
-ghost use Rattle.record.specs.Records.{Reads};
+ghost use Rattle.record.specs.Records.{Judged, Reads};
 use crate::fault::ReadError;
 use crate::faults::ReadErrorFromAlloc;
 use crate::faults::ReadErrorFromRecord;
@@ -10,7 +10,8 @@ use std::alloc::Global;
 
 // Reads a record over its source, once.
 pub fn read<'a>(heap: Global, source: &'a str, record: &'a [u8]) -> Result<Listing, ReadError>
-    ensures { λ r. ⌜ Reads (now (source .entry)) (now («record» .entry)) r ⌝ }
+    ensures reads { λ r. ⌜ Reads (now (source .entry)) (now («record» .entry)) r ⌝ }
+    ensures judged { λ r. ⌜ Judged (now (source .entry)) (now («record» .entry)) r ⌝ }
 {
     let mut entries = Vec::new(heap);
     let mut reader = Reader::new(source.as_bytes(), record);
