@@ -1,11 +1,1 @@
-pub mod Bytes
-pub mod Chains
-pub mod Held
-pub mod Judging
 pub mod Lookup
-pub mod Novelty
-pub mod Placing
-pub mod Sameness
-pub mod Shapes
-pub mod Stepping
-pub mod Underway

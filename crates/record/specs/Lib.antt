@@ -1,11 +1,3 @@
 pub mod Kinds
 pub mod Letters
-pub mod Operands
-pub mod Places
-pub mod Questions
-pub mod Reading
-pub mod Records
 pub mod Refusals
-pub mod Rows
-pub mod WellFormed
-pub mod Written

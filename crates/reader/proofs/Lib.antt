@@ -1,0 +1,10 @@
+pub mod Bytes
+pub mod Chains
+pub mod Held
+pub mod Judging
+pub mod Novelty
+pub mod Placing
+pub mod Sameness
+pub mod Shapes
+pub mod Stepping
+pub mod Underway
