@@ -34,8 +34,9 @@ use Rattle.record.specs.declared.fault.RecordFault.{RecordFault}
 use Rattle.reader.specs.declared.listing.Listing.{Listing}
 use Rattle.reader.specs.declared.nest.Nest.{Nest}
 use Rattle.record.specs.Kinds.{opens, part-of, span-of}
+use Rattle.record.specs.Openers.{opens-named}
 use Rattle.reader.specs.Places.{commands-of}
-use Rattle.reader.specs.Questions.{Standing, allowed, asks-depth, asks-new, asks-part, asks-span, declared, fault-of, not-text, opens-named, operand-fault, or-else, place-fault, stands}
+use Rattle.reader.specs.Questions.{Standing, allowed, asks-depth, asks-new, asks-part, asks-span, declared, fault-of, not-text, operand-fault, or-else, place-fault, stands}
 use Rattle.reader.specs.Reading.{counted, entry, read, taken}
 use Rattle.reader.specs.Records.{Accepted, Judged, Reads, entries-of}
 use Rattle.reader.specs.WellFormed.{Distinct, Holds, Lawful, Text-inside, Well-formed, names}

@@ -4,7 +4,6 @@ pub mod Held
 pub mod Judging
 pub mod Novelty
 pub mod Placing
-pub mod Sameness
 pub mod Shapes
 pub mod Stepping
 pub mod Underway

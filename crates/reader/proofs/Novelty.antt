@@ -20,9 +20,9 @@ use Rattle.record.specs.declared.command.Container.the-variants.{Block, Compone
 use Rattle.record.specs.declared.fault.Reason.{Reason}
 use Rattle.record.specs.declared.fault.Reason.the-variants.{Repeated}
 use Rattle.record.specs.Kinds.{opens}
-use Rattle.reader.specs.Questions.{opens-named, same-container}
+use Rattle.record.specs.Openers.{opens-named, same-container}
 use Rattle.reader.specs.WellFormed.{Distinct, Holds, names, names-from}
-use Rattle.reader.proofs.Sameness.{same-itself, same-true}
+use Rattle.record.proofs.Sameness.{same-itself, same-true}
 
 -- no name of the list is this one
 abbrev pub Absent : List ℕ → List (List ℕ) → Type 0

@@ -1,6 +1,6 @@
 -- What is asked of each command, in its order. Assumes nothing.
 use mathlib.Core.Path.{_≡_}
-use mathlib.Core.Bool.{Bool, true, false, cond, _&&_, _||_}
+use mathlib.Core.Bool.{Bool, true, false, cond, _||_}
 use mathlib.Core.List.{List, [], _∷_}
 use Prim.Native.Nat.{ℕ, _+_}
 use lib.Dec.{eqb, ltb}
@@ -9,7 +9,6 @@ use Rattle.std.specs.declared.option.Option.{Option}
 use Rattle.std.specs.declared.option.Option.the-variants.{None, Some}
 use Rattle.std.specs.declared.result.Result.{Result}
 use Rattle.std.specs.declared.result.Result.the-variants.{Ok, Err}
-use Rattle.std.specs.shelf.Text.{sameBytes}
 use Rattle.text.specs.Spans.{lawful-in}
 use Rattle.text.specs.Texts.{part-bytes, part-fault}
 use Rattle.text.specs.declared.fault.TextFault.{TextFault}
@@ -26,6 +25,7 @@ use Rattle.reader.specs.declared.nest.Nest.{Nest}
 use Rattle.reader.specs.declared.nest.Stands.{Stands}
 use Rattle.reader.specs.declared.nest.Stands.the-variants.{First, Outside, InBlock, InComponent}
 use Rattle.record.specs.Kinds.{container-of, opens, part-of, span-of}
+use Rattle.record.specs.Openers.{opens-named}
 
 -- What stands when a command is read: the open containers, the innermost first, and how many commands stand directly in the body so far.
 pub record Standing : Type 0 where
@@ -70,18 +70,7 @@ allowed s (Text p) = true
 allowed s Close = may-close s
 allowed s End = true
 
-abbrev pub same-container : Container → Container → Bool
-same-container Block Block = true
-same-container Block Component = false
-same-container Component Block = false
-same-container Component Component = true
-
--- does the command open a container of that kind and name?
-abbrev pub opens-named : List ℕ → Container → List ℕ → Option (Container × Part) → Bool
-opens-named source kind name None = false
-opens-named source kind name (Some q) = same-container kind (q .0) && sameBytes (part-bytes source (q .1)) name
-
--- does one of the commands?
+-- does one of the commands open a container of that kind and name?
 abbrev pub declared : List ℕ → Container → List ℕ → List Entry → Bool
 declared source kind name [] = false
 declared source kind name (e ∷ before) = opens-named source kind name (opens (e .command)) || declared source kind name before

@@ -18,7 +18,7 @@ use Rattle.record.specs.declared.command.Container.{Container}
 use Rattle.record.specs.declared.command.Container.the-variants.{Block, Component}
 use Rattle.record.specs.declared.command.Opener.{Opener}
 use Rattle.record.specs.Kinds.{container-of, opens, part-of, span-of}
-use Rattle.reader.specs.Questions.{same-container}
+use Rattle.record.specs.Openers.{same-container}
 
 -- ---- operands
 

@@ -2,8 +2,7 @@
 ghost use mathlib.Core.Path.{_≡_};
 ghost use Prim.Native.Nat.{_≤_, _<_, _+_};
 ghost use lib.ListN.{length};
-ghost use Rattle.record.specs.Kinds.{opens};
-ghost use Rattle.reader.specs.Questions.{Checked, declared, in-container, may-open, opens-named, stands};
+ghost use Rattle.reader.specs.Questions.{Checked, declared, in-container, may-open, stands};
 ghost use Rattle.reader.specs.Reading.{after, counted, entry};
 ghost use Rattle.record.specs.declared.command.Command.the-variants.{Close};
 ghost use Rattle.reader.specs.Rows.{Admitted, Finished, Fresh, Moved, Next, Opened, Sound, Stepped, position, standing};
@@ -13,9 +12,7 @@ use crate::nest::Stands;
 use crate::state::Reader;
 use record::command::Command;
 use record::command::Container;
-use record::command::ContainerPartialEq;
 use record::command::Entry;
-use record::command::Opener;
 use record::command::Owner;
 use record::fault::Reason;
 use record::fault::RecordFault;
@@ -24,22 +21,12 @@ use record::table::layout;
 use text::lines::line_count;
 use text::part::Part;
 
-// Whether the command opens a container of that kind and name.
-fn opens_named(source: &[u8], kind: Container, name: &[u8], command: Command) -> bool
-    ensures { λ r. ⌜ r ≡ opens-named (now (source .entry)) kind (now (name .entry)) (opens command) ⌝ }
-{
-    match command {
-        Command::Open(opener, part) => kind == opener.container() && part.bytes(source) == name,
-        _ => false,
-    }
-}
-
-// Whether one of the commands does.
+// Whether one of the commands opens a container of that kind and name.
 fn declared(source: &[u8], kind: Container, name: &[u8], before: &[Entry]) -> bool
     ensures { λ r. ⌜ r ≡ declared (now (source .entry)) kind (now (name .entry)) (now (before .entry)) ⌝ }
 {
     for entry in before {
-        if opens_named(source, kind, name, entry.command) {
+        if entry.command.opens(source, kind, name) {
             return true;
         }
     }

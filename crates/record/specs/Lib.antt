@@ -1,3 +1,4 @@
 pub mod Kinds
 pub mod Letters
+pub mod Openers
 pub mod Refusals

@@ -1,8 +1,10 @@
 // What a command is, whatever its operands.
 ghost use mathlib.Core.Path.{_≡_};
-ghost use Rattle.record.specs.Kinds.{container-of, is-end, part-of, span-of};
+ghost use Rattle.record.specs.Kinds.{container-of, is-end, opens, part-of, span-of};
+ghost use Rattle.record.specs.Openers.{opens-named};
 use crate::command::Command;
 use crate::command::Container;
+use crate::command::ContainerPartialEq;
 use crate::command::Opener;
 use text::part::Part;
 use text::span::Span;
@@ -42,6 +44,16 @@ impl Command {
             Command::Open(Opener::Block(span), _) => Some(span),
             Command::Refer(_, _, span) => Some(span),
             _ => None,
+        }
+    }
+
+    // Whether the command opens a container of that kind and name.
+    pub fn opens(self, source: &[u8], kind: Container, name: &[u8]) -> bool
+        ensures { λ r. ⌜ r ≡ opens-named (now (source .entry)) kind (now (name .entry)) (opens self) ⌝ }
+    {
+        match self {
+            Command::Open(opener, part) => kind == opener.container() && part.bytes(source) == name,
+            _ => false,
         }
     }
 

@@ -7,8 +7,8 @@ use Rattle.reader.proofs.reading.declared.Needs as need
 pub loop-entry-again : need.loop-entry-again
 loop-entry-again c = search (needs, at-drop-more (declared (c .args .source .now) (c .args .kind) (c .args .name .now)) (c .args .before .now) (c .loop-entry .entry-index))
 
-pub returns-then-opens-named : need.returns-then-opens-named
-returns-then-opens-named c = search (needs, or-left, at-drop-more (declared (c .args .source .now) (c .args .kind) (c .args .name .now)) (c .args .before .now) (c .loop-entry .entry-index))
+pub returns-then-opens : need.returns-then-opens
+returns-then-opens c = search (needs, or-left, at-drop-more (declared (c .args .source .now) (c .args .kind) (c .args .name .now)) (c .args .before .now) (c .loop-entry .entry-index))
 
 pub returns : need.returns
 returns c = search (needs, at-drop-all (declared (c .args .source .now) (c .args .kind) (c .args .name .now)) (c .args .before .now) (c .loop-entry .entry-index))

@@ -4,10 +4,10 @@ use Prim.Native.Nat.{ℕ}
 use Rattle.std.specs.shelf.Text.{sameBytes}
 use Rattle.std.proofs.shelf.Equals.{matches-decides, sameBytes-decides}
 use Rattle.std.proofs.shelf.Ways.{same-from-decides}
 use Rattle.record.specs.Kinds.{opens}
-use Rattle.reader.specs.Questions.{opens-named}
-use Rattle.reader.proofs.Sameness.{same-and, other-and}
-use Rattle.reader.proofs.reading.opens_named.Needs as need
+use Rattle.record.specs.Openers.{opens-named}
+use Rattle.record.proofs.Sameness.{same-and, other-and}
+use Rattle.record.proofs.command.Command.opens.Needs as need
 
 pub returns-then-eq : need.returns-then-eq
 returns-then-eq c =

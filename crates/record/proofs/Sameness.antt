@@ -3,9 +3,9 @@ use mathlib.Core.Path.{_≡_, refl, sym, ap, subst, _∙_}
 use mathlib.Core.Bool.{Bool, true, false, _&&_}
 use native.Mathlib.Omega.{arith}
 use Prim.Native.Nat.{ℕ}
 use Rattle.record.specs.declared.command.Container.{Container}
 use Rattle.record.specs.declared.command.Container.the-variants.{Block, Component}
-use Rattle.reader.specs.Questions.{same-container}
+use Rattle.record.specs.Openers.{same-container}
 
 pub same-itself : (k : Container) → same-container k k ≡ true
 same-itself Block = refl
