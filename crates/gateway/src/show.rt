@@ -1,5 +1,9 @@
 // What the program prints of a template.
 use crate::samples::Sample;
+use builtin::Builtin;
+use builtin::BuiltinCatalogue;
+use catalogue::Catalogue;
+use catalogue::Kind;
 use chunks::chunk::chunk;
 use chunks::chunk::chunk_calls_super;
 use chunks::references::parent;
@@ -19,7 +23,7 @@ use std::io;
 use text::part::Part;
 
 // The template's commands, chunks and references, or why its record is refused.
-pub fn template(rt: &LibcRuntime, sample: Sample) -> io::Result<()> {
+pub fn template<C: Catalogue>(rt: &LibcRuntime, names: &C, sample: Sample) -> io::Result<()> {
     let name = sample.name;
     let bytes = sample.record.len();
     println!(rt, "")?;
@@ -28,7 +32,7 @@ pub fn template(rt: &LibcRuntime, sample: Sample) -> io::Result<()> {
         Ok(listing) => {
             commands(rt, &listing)?;
             chunks(rt, &listing)?;
-            names(rt, &listing)
+            references_of(rt, names, &listing)
         }
         Err(ReadError::Record(fault)) => refusal(rt, fault),
         Err(ReadError::Memory) => println!(rt, "  out of memory"),
@@ -155,7 +159,7 @@ fn chunk_line(rt: &LibcRuntime, listing: &Listing, owner: Owner) -> io::Result<(
 }
 
 // The parent, what the template refers to, and its variables.
-fn names(rt: &LibcRuntime, listing: &Listing) -> io::Result<()> {
+fn references_of<C: Catalogue>(rt: &LibcRuntime, names: &C, listing: &Listing) -> io::Result<()> {
     let source = listing.source();
     match parent(listing) {
         Some(name) => {
@@ -167,11 +171,39 @@ fn names(rt: &LibcRuntime, listing: &Listing) -> io::Result<()> {
     for call in references(rt.alloc(), listing)? {
         let kind = reference(call.kind);
         let name = text(source, call.name);
-        println!(rt, "  refers to {kind} {name:?}")?;
+        print!(rt, "  refers to {kind} {name:?}")?;
+        host_number(rt, names, call.kind, name)?;
     }
     for name in variables(rt.alloc(), listing)? {
         let name = text(source, name);
         println!(rt, "  variable {name:?}")?;
     }
     Ok(())
+}
+
+// What the catalogues say of a name. Components and templates are not theirs.
+fn host_number<C: Catalogue>(
+    rt: &LibcRuntime,
+    names: &C,
+    reference: Reference,
+    name: &str,
+) -> io::Result<()> {
+    let kind = match reference {
+        Reference::Filter => Kind::Filter,
+        Reference::Test => Kind::Test,
+        Reference::Function => Kind::Function,
+        _ => return println!(rt, ""),
+    };
+    print!(rt, ": built in ")?;
+    number(rt, Builtin.number(kind, name.as_bytes()))?;
+    print!(rt, ", here ")?;
+    number(rt, names.number(kind, name.as_bytes()))?;
+    println!(rt, "")
+}
+
+fn number(rt: &LibcRuntime, number: Option<u16>) -> io::Result<()> {
+    match number {
+        Some(number) => print!(rt, "{number}"),
+        None => print!(rt, "unknown"),
+    }
 }

@@ -1,0 +1,4 @@
+mod Answered
+pub mod Laws
+mod Listings
+pub mod Sames

@@ -1,0 +1,5 @@
+pub mod Entries
+pub mod Meaning
+pub mod Numbers
+pub mod Runs
+pub mod Words
