@@ -88,8 +88,8 @@ fn commands(rt: &LibcRuntime, listing: &Listing) -> io::Result<()> {
         command(rt, source, entry.command)?;
         let place = entry.place;
         match entry.owner {
-            Owner::Body => println!(rt, "  (body, {place})")?,
-            Owner::Container(opener) => println!(rt, "  (command {opener}, {place})")?,
+            Owner::Body => println!(rt, "  (in the body, place {place})")?,
+            Owner::Container(opener) => println!(rt, "  (in command {opener}, place {place})")?,
         }
         match entry.command {
             Command::Open(_, _) => depth = depth.saturating_add(1),

@@ -6,10 +6,7 @@ use Prim.Native.Nat.{ℕ, zero, suc, _+_, _*_, _/_, _%_, _≤_, _<_}
 use native.Mathlib.Omega.{arith}
 use lib.Dec.{eqb}
 use lib.ListN.{length, take, drop, getD}
-use Rattle.std.specs.declared.option.Option.{Option}
-use Rattle.std.specs.declared.option.Option.the-variants.{None, Some}
 use Rattle.std.proofs.shelf.Lists.{append-nil, drop-more}
-use Rattle.std.proofs.shelf.Tests.{eqb-true}
 use Rattle.text.specs.declared.part.Part.{Part}
 use Rattle.text.specs.declared.span.Span.{Span}
 use Rattle.record.specs.declared.command.Command.{Command}
@@ -18,43 +15,10 @@ use Rattle.record.specs.declared.command.Opener.{Opener}
 use Rattle.record.specs.declared.command.Opener.the-variants.{Block as block, PlainBlock as plain-block, Component as component}
 use Rattle.record.specs.declared.letter.Letter.{Letter}
 use Rattle.record.specs.declared.letter.Letter.the-variants.{Extends as X, Block as B, PlainBlock as b, Component as C, Refer as refers, Variable as V, Text as W, Close as E, End as Z}
-use Rattle.record.specs.declared.letter.Reference.{Reference}
-use Rattle.record.specs.declared.letter.Reference.the-variants.{Filter, Test, Function, Component, Include}
 use Rattle.record.specs.Kinds.{letter-of}
-use Rattle.record.specs.Letters.{letter-at, letter-byte, letter-in, letters, width}
+use Rattle.record.specs.Letters.{width}
 use Rattle.reader.specs.Operands.{command-of, name-operand, number, span-operand, text-operand}
 use Rattle.reader.specs.Written.{two, written, written-name, written-operands, written-span, written-text}
-
--- ---- letters
-
--- each letter's byte stands for that letter: no two letters share one
-pub letter-known : (l : Letter) → letter-at (letter-byte l) ≡ Some l
-letter-known X = refl
-letter-known B = refl
-letter-known b = refl
-letter-known C = refl
-letter-known (refers Filter) = refl
-letter-known (refers Test) = refl
-letter-known (refers Function) = refl
-letter-known (refers Component) = refl
-letter-known (refers Include) = refl
-letter-known V = refl
-letter-known W = refl
-letter-known E = refl
-letter-known Z = refl
-
-found : (n : ℕ) (ls : List Letter) (l : Letter) → letter-in n ls ≡ Some l → letter-byte l ≡ n
-found n [] l e = absurd (let z : _≡_ {A = ℕ} 0 1 = cc in omega arith)
-found n (k ∷ ls) l e = go (eqb (letter-byte k) n) refl e (found n ls l)
-  where
-    go : (t : Bool) → eqb (letter-byte k) n ≡ t → cond t (Some k) (letter-in n ls) ≡ Some l → (letter-in n ls ≡ Some l → letter-byte l ≡ n) → letter-byte l ≡ n
-    go true t h more =
-        let is : k ≡ l = cc in
-        ap letter-byte (sym is) ∙ eqb-true (letter-byte k) n t
-    go false t h more = more h
-
-pub letter-found : (n : ℕ) (l : Letter) → letter-at n ≡ Some l → letter-byte l ≡ n
-letter-found n l e = found n letters l e
 
 -- ---- written, then read
 

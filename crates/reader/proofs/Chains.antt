@@ -26,7 +26,8 @@ use Rattle.reader.specs.Operands.{command-of}
 use Rattle.reader.specs.Questions.{Standing, fault-of}
 use Rattle.reader.specs.Reading.{answered, asked, ended, entry, read-from, taken, turn}
 use Rattle.reader.specs.Written.{written, written-operands}
-use Rattle.reader.proofs.Bytes.{Bytes, bytes-tail, command-again, command-back, length-operands, letter-found, letter-known}
+use Rattle.reader.proofs.Bytes.{Bytes, bytes-tail, command-again, command-back, length-operands}
+use Rattle.record.proofs.Lookup.{letter-found, letter-known}
 use Rattle.reader.proofs.Stepping.{letter-of-command}
 use Rattle.reader.proofs.Underway.{end-is, onward, read-ended, read-taken, skipped, turned}
 

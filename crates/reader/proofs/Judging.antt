@@ -13,6 +13,7 @@ use Rattle.std.specs.declared.result.Result.the-variants.{Ok, Err}
 use Rattle.std.specs.shelf.Lists.{All}
 use Rattle.std.proofs.shelf.Lists.{append-assoc, length-map, length-push, map-push}
 use Rattle.std.proofs.shelf.Tests.{and-from, and-parts, both-ways, cond-true, cond-false, false≢true, le-leb, leb-true, lt-ltb, ltb-true}
+use Rattle.text.specs.Lines.{breaks}
 use Rattle.text.specs.Spans.{lawful-in}
 use Rattle.text.specs.Texts.{inside, part-bytes, part-fault}
 use Rattle.text.specs.Utf8.{utf8}
@@ -91,12 +92,14 @@ span-ok source (Some s) e = go (lawful-in source s) refl e
   where
     go : (t : Bool) → lawful-in source s ≡ t → cond t None (Some NotLawful) ≡ None → Lawful source s
     go true t f =
-        let a = and-parts _ _ t in
-        let b = and-parts _ _ (a .1) in
-        let c = and-parts _ _ (b .1) in
+        let count = breaks source + 1 in
+        let ends = leb (s .from) (s .to) && leb (s .to) (length source) in
+        let a = and-parts (leb 1 (s .«start_line»)) (leb (s .«start_line») count && ends) t in
+        let b = and-parts (leb (s .«start_line») count) ends (a .1) in
+        let c = and-parts (leb (s .from) (s .to)) (leb (s .to) (length source)) (b .1) in
         record {
           first = leb-true _ _ (a .0);
-          last = omega (arith, leb-true _ _ (b .0), length-lines source);
+          last = omega (arith, leb-true (s .«start_line») count (b .0), length-lines source);
           forward = leb-true _ _ (c .0);
           inside = leb-true _ _ (c .1);
         }

@@ -21,6 +21,9 @@ use record::table::layout;
 use text::lines::line_count;
 use text::part::Part;
 
+// How many containers may stand open.
+const DEEPEST: usize = 16;
+
 // Whether one of the commands opens a container of that kind and name.
 fn declared(source: &[u8], kind: Container, name: &[u8], before: &[Entry]) -> bool
     ensures { λ r. ⌜ r ≡ declared (now (source .entry)) kind (now (name .entry)) (now (before .entry)) ⌝ }
@@ -127,7 +130,7 @@ impl<'a> Reader<'a> {
         if declared(self.source, kind, name.bytes(self.source), before) {
             return Err(Reason::Repeated);
         }
-        if self.depth >= 16 {
+        if self.depth >= DEEPEST {
             return Err(Reason::TooDeep);
         }
         let opener = self.taken;

@@ -3,17 +3,19 @@ use mathlib.Core.Path.{_≡_, refl, sym, ap, _∙_}
 use mathlib.Core.Bool.{Bool, true, false, cond}
 use mathlib.Core.List.{List, [], _∷_, map}
 use Prim.Native.Nat.{ℕ, _+_, _≤_, _<_}
+use native.Mathlib.Omega.{arith}
 use lib.Dec.{eqb}
 use lib.ListN.{length, drop, getD}
 use Rattle.std.specs.declared.option.Option.{Option}
 use Rattle.std.specs.declared.option.Option.the-variants.{None, Some}
 use Rattle.std.specs.Options.{mapped}
 use Rattle.std.proofs.shelf.Lists.{at-drop-more, at-drop-all}
-use Rattle.std.proofs.shelf.Tests.{cond-true, cond-false, eq-eqb, ne-eqb}
+use Rattle.std.proofs.shelf.Tests.{cond-true, cond-false, eq-eqb, eqb-true, ne-eqb}
 use Rattle.record.specs.declared.letter.Layout.{Layout}
 use Rattle.record.specs.declared.letter.Letter.{Letter}
 use Rattle.record.specs.declared.letter.Letter.the-variants.{Extends, Block, PlainBlock, Component, Refer, Variable, Text, Close, End}
-use Rattle.record.specs.Letters.{layout-at, layout-of, letter-byte, letter-in, letters}
+use Rattle.record.specs.declared.letter.Reference.the-variants.{Filter, Test, Function, Component as component, Include}
+use Rattle.record.specs.Letters.{layout-at, layout-of, letter-byte, letter-at, letter-in, letters, Rule}
 
 -- the table as the code has it: each row is the layout of its letter
 abbrev pub rows : List Layout
@@ -54,3 +56,37 @@ module _ (b i : ℕ) (d : Layout) where
 
 pub none : (b i : ℕ) → length rows ≤ i → row-in b (drop i rows) ≡ row-in b rows → None ≡ layout-at b
 none b i h inv = sym (at-drop-all (row-in b) rows i h) ∙ inv ∙ row-is-layout b letters
+
+-- ---- the rule of the table
+
+-- each letter's byte stands for that letter: no two letters share one
+pub letter-known : (l : Letter) → letter-at (letter-byte l) ≡ Some l
+letter-known Extends = refl
+letter-known Block = refl
+letter-known PlainBlock = refl
+letter-known Component = refl
+letter-known (Refer Filter) = refl
+letter-known (Refer Test) = refl
+letter-known (Refer Function) = refl
+letter-known (Refer component) = refl
+letter-known (Refer Include) = refl
+letter-known Variable = refl
+letter-known Text = refl
+letter-known Close = refl
+letter-known End = refl
+
+found : (n : ℕ) (ls : List Letter) (l : Letter) → letter-in n ls ≡ Some l → letter-byte l ≡ n
+found n [] l e = absurd (let z : _≡_ {A = ℕ} 0 1 = cc in omega arith)
+found n (k ∷ ls) l e = go (eqb (letter-byte k) n) refl e (found n ls l)
+  where
+    go : (t : Bool) → eqb (letter-byte k) n ≡ t → cond t (Some k) (letter-in n ls) ≡ Some l → (letter-in n ls ≡ Some l → letter-byte l ≡ n) → letter-byte l ≡ n
+    go true t h more =
+        let is : k ≡ l = cc in
+        ap letter-byte (sym is) ∙ eqb-true (letter-byte k) n t
+    go false t h more = more h
+
+pub letter-found : (n : ℕ) (l : Letter) → letter-at n ≡ Some l → letter-byte l ≡ n
+letter-found n l e = found n letters l e
+
+pub table-rule : Rule
+table-rule = record { thirteen = refl; own = letter-known; found = λ n l. letter-found n l }

@@ -1,8 +1,10 @@
 -- The thirteen commands: the byte of each, and how many bytes its operands take. Assumes nothing.
+use mathlib.Core.Path.{_≡_}
 use mathlib.Core.Bool.{cond}
 use mathlib.Core.List.{List, [], _∷_}
 use Prim.Native.Nat.{ℕ, _+_}
 use lib.Dec.{eqb}
+use lib.ListN.{length}
 use Rattle.std.specs.declared.option.Option.{Option}
 use Rattle.std.specs.declared.option.Option.the-variants.{None, Some}
 use Rattle.std.specs.Options.{mapped}
@@ -62,3 +64,9 @@ letter-at b = letter-in b letters
 
 abbrev pub layout-at : ℕ → Option Layout
 layout-at b = mapped layout-of (letter-at b)
+
+-- The rule of the table: thirteen letters, each under a byte of its own.
+pub record Rule : Type 0 where
+  pub thirteen : length letters ≡ 13
+  pub own : (l : Letter) → letter-at (letter-byte l) ≡ Some l
+  pub found : (b : ℕ) (l : Letter) → letter-at b ≡ Some l → letter-byte l ≡ b

@@ -1,6 +1,6 @@
 // The table of the thirteen commands.
 ghost use mathlib.Core.Path.{_≡_};
-ghost use Rattle.record.specs.Letters.{layout-at};
+ghost use Rattle.record.specs.Letters.{Rule, layout-at};
 use crate::letter::Layout;
 use crate::letter::Letter;
 use crate::letter::Reference;
@@ -101,7 +101,8 @@ const LAYOUTS: [Layout; 13] = [
 
 // The layout of the command that the byte stands for.
 pub fn layout(byte: u8) -> Option<Layout>
-    ensures { λ r. ⌜ r ≡ layout-at byte ⌝ }
+    ensures row { λ r. ⌜ r ≡ layout-at byte ⌝ }
+    ensures rule { λ _. ⌜ Rule ⌝ }
 {
     for row in LAYOUTS {
         if row.byte == byte {

@@ -21,8 +21,8 @@ returns c =
     let row : Nest = record { container = c .args .kind; opener = r .taken; commands = 0 } in
     let new = sym (ap (λ (bs : List ℕ). declared (r .source .now) (c .args .kind) bs (c .args .before .now)) (c .bytes .ensures)) ∙ sym (c .declared .ensures) ∙ c .if-declared .left in
     let deep = length-rows (r .depth) (r .nests) in (
-      may-enter _ _ new (omega (arith, deep, c .if-self-ge16 .left)),
-      ap (λ (rows : List Nest). record { rows = rows; body = q .body }) (rows-push (q .depth) (q .nests) row (omega (arith, told .depth, told .moved .sound .size, c .if-self-ge16 .left)))
+      may-enter _ _ new (omega (arith, deep, c .if-self-ge-DEEPEST .left)),
+      ap (λ (rows : List Nest). record { rows = rows; body = q .body }) (rows-push (q .depth) (q .nests) row (omega (arith, told .depth, told .moved .sound .size, c .if-self-ge-DEEPEST .left)))
           ∙ ap (pushed (c .args .kind) (r .taken)) (told .stands)
           ∙ ap (λ (n : ℕ). pushed (c .args .kind) n (counted (rows-of (r .depth) (r .nests)) (r .body))) (c .pre .taken),
       record {
@@ -31,7 +31,7 @@ returns c =
         rest = told .moved .rest;
         taken = told .moved .taken;
         sound = record {
-          depth = omega (arith, told .depth, c .if-self-ge16 .left);
+          depth = omega (arith, told .depth, c .if-self-ge-DEEPEST .left);
           size = length-set (q .nests) (q .depth) row ∙ told .moved .sound .size;
           counts = all-set (λ (n : Nest). n .commands ≤ q .taken) (q .nests) (q .depth) row (omega arith) (told .moved .sound .counts);
           body = told .moved .sound .body;
