@@ -6,4 +6,5 @@ pub mod Novelty
 pub mod Placing
 pub mod Shapes
 pub mod Stepping
+pub mod Shown
 pub mod Underway

@@ -1,3 +1,4 @@
+pub mod Examples
 pub mod Operands
 pub mod Places
 pub mod Questions

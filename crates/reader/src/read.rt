@@ -1,4 +1,5 @@
 // Reading a record.
+ghost use Rattle.reader.specs.Examples.{Examples};
 ghost use Rattle.reader.specs.Records.{Judged, Reads};
 use crate::listing::Listing;
 use crate::state::Reader;
@@ -24,4 +25,11 @@ pub fn read<'a>(heap: Global, source: &'a str, record: &'a [u8]) -> Result<Listi
             return Ok(Listing { source, entries });
         }
     }
+}
+
+// The definition of reading computes the worked examples.
+pub fn examples_are_read() -> u8
+    ensures { λ _. ⌜ Examples ⌝ }
+{
+    0
 }
