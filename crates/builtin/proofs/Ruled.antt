@@ -1,20 +1,17 @@
 -- The rule of the built-in table: tests over the whole table, computed once, and what they say.
-use mathlib.Core.Path.{_≡_, refl, sym, ap, subst, _∙_}
-use mathlib.Core.Bool.{Bool, true, false, true≢false, cond, not, _&&_}
+use mathlib.Core.Path.{_≡_, refl, sym, ap, _∙_}
+use mathlib.Core.Bool.{Bool, true, false, true≢false, not, _&&_}
 use mathlib.Core.List.{List, [], _∷_}
 use Prim.Native.Nat.{ℕ, zero, suc, _+_}
-use native.Mathlib.Nat.{add-zero, zero-add, add-suc}
-use native.Mathlib.Numerals.{add-one}
+use native.Mathlib.Nat.{add-zero, zero-add}
 use native.Mathlib.Omega.{arith}
 use lib.Dec.{eqb}
 use Rattle.builtin.specs.Names.{filter-names, test-names, function-names}
 use Rattle.builtin.specs.Table.{Row, Rule, built-ins, find, is-known}
 use Rattle.catalogue.specs.Meaning.{same}
-use Rattle.catalogue.specs.declared.kinds.Kind.{Kind}
 use Rattle.catalogue.proofs.Sames.{same-refl}
 use Rattle.std.proofs.shelf.Tests.{and-parts, cond-false, cond-true, eqb-true, not-true}
 use Rattle.std.specs.Options.{valueOr}
-use Rattle.std.specs.declared.option.Option.{Option}
 use Rattle.std.specs.declared.option.Option.the-variants.{None, Some}
 use Rattle.std.specs.shelf.Maps.{nth}
 

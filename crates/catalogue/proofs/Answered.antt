@@ -1,18 +1,16 @@
 -- When a registration is taken and when it is refused.
-use mathlib.Core.Path.{_≡_, refl, sym, ap, _∙_}
+use mathlib.Core.Path.{_≡_, sym, ap, _∙_}
 use mathlib.Core.Bool.{Bool, true, false, true≢false, cond, _||_}
 use mathlib.Core.List.{List}
-use Prim.Native.Nat.{ℕ, _+_, _-_, _≤_, _<_}
+use Prim.Native.Nat.{ℕ, _+_, _-_, _≤_}
 use native.Mathlib.Omega.{arith}
 use lib.Dec.{ltb}
 use lib.ListN.{length}
 use Rattle.catalogue.specs.declared.kinds.Kind.{Kind}
-use Rattle.catalogue.specs.declared.kinds.Refusal.{Refusal}
 use Rattle.catalogue.specs.declared.kinds.Refusal.the-variants.{TooLong, Full}
 use Rattle.catalogue.specs.Meaning.{Meaning, Registers, answer, write}
-use Rattle.std.proofs.shelf.Tests.{cond-false, cond-true, le-ltb, or-from, lt-ltb}
+use Rattle.std.proofs.shelf.Tests.{cond-false, cond-true, le-ltb, or-from}
 use Rattle.std.specs.Results.{isOk}
-use Rattle.std.specs.declared.result.Result.{Result}
 use Rattle.std.specs.declared.result.Result.the-variants.{Ok, Err}
 
 module _ (longest : ℕ) (m : Meaning) (k : Kind) (n : List ℕ) (fits : length n ≤ longest) where

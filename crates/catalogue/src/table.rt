@@ -1,5 +1,5 @@
-ghost use Prim.Native.Nat.{ℕ, _<_};
-ghost use Rattle.catalogue.specs.Entries.{Placed, empty, spells, registry};
+ghost use Prim.Native.Nat.{_<_};
+ghost use Rattle.catalogue.specs.Entries.{Placed, empty, registry};
 ghost use Rattle.std.specs.Of.Vec.{vec-items};
 ghost use Rattle.std.specs.Vec.{made};
 ghost use mathlib.Core.Path.{_≡_};

@@ -1,12 +1,11 @@
 -- The first of the rows that came: a cut list takes one more row as the whole would.
-use mathlib.Core.Path.{_≡_, refl, sym, ap, subst, _∙_}
-use mathlib.Core.Bool.{Bool, true, false, cond}
+use mathlib.Core.Path.{_≡_, refl, sym, ap, _∙_}
+use mathlib.Core.Bool.{true, false, cond}
 use mathlib.Core.List.{List, [], _∷_, _++_}
 use Prim.Native.Nat.{ℕ, zero, suc, _+_, _-_, _^_, min, _≤_, _<_}
-use native.Mathlib.Nat.{le-refl}
 use native.Mathlib.Omega.{arith}
 use lib.ListN.{length, take, drop}
-use Rattle.std.proofs.shelf.Lists.{append-assoc, append-nil, drop-all, drop-append-le, length-append, length-push, take-all, take-append-le, take-at, take-take}
+use Rattle.std.proofs.shelf.Lists.{append-assoc, drop-all, drop-append-le, length-push, take-all, take-append-le, take-at, take-take}
 use Rattle.std.proofs.shelf.Edits.{length-inserted}
 use Rattle.std.specs.Holes.{inserted}
 use Rattle.std.specs.Orderings.{isLe}

@@ -2,7 +2,7 @@
 use mathlib.Core.Path.{_≡_, refl, sym, ap, subst, _∙_}
 use mathlib.Core.Bool.{Bool, true, false, true≢false, cond}
 use mathlib.Core.List.{List, [], _∷_, _++_}
-use Prim.Native.Nat.{ℕ, zero, suc, _+_, _≤_, _<_}
+use Prim.Native.Nat.{ℕ, zero, suc, _+_, _<_}
 use native.Mathlib.Nat.{le-of-suc-le-suc, not-suc-le-zero}
 use native.Mathlib.Omega.{arith}
 use lib.ListN.{length, getD, set, take, drop}
@@ -10,7 +10,7 @@ use Rattle.std.proofs.shelf.Elements.{all-append, all-drop, all-from-getD, all-
 use Rattle.std.proofs.shelf.Lists.{getD-drop, getD-take, length-drop, length-take, take-at}
 use Rattle.std.specs.Holes.{inserted, removed}
 use Rattle.std.specs.Keys.{Total, alike-right}
-use Rattle.std.specs.Orderings.{isEq, isGt, isLe, isLt, reversed}
+use Rattle.std.specs.Orderings.{isLe, isLt, reversed}
 use Rattle.std.specs.Places.{Every, Parted}
 use Rattle.std.specs.declared.cmp.Ordering.{Ordering}
 use Rattle.std.specs.declared.cmp.Ordering.the-variants.{Less, Equal, Greater}

@@ -4,7 +4,7 @@ use mathlib.Core.Bool.{Bool, true, false, true≢false, cond}
 use mathlib.Core.List.{List, [], _∷_, _++_}
 use Prim.Native.Nat.{ℕ, zero, suc, _+_, _≤_, _<_}
 use lib.ListN.{length, getD, take, drop}
-use Rattle.std.proofs.shelf.Lists.{append-assoc, append-nil, take-more, drop-more, drop-all}
+use Rattle.std.proofs.shelf.Lists.{append-assoc, take-more, drop-more, drop-all}
 use Rattle.std.proofs.shelf.Tests.{cond-true, cond-false}
 use Rattle.std.specs.Holes.{inserted}
 use Rattle.std.specs.Orderings.{isLe, isGt}

@@ -1,7 +1,7 @@
 -- What each call of a table answers and leaves. `c` is the rows' order, `key` what a row is found by.
 use mathlib.Core.Path.{_≡_}
 use mathlib.Core.Bool.{cond, _||_}
-use mathlib.Core.List.{List, [], _∷_, _++_}
+use mathlib.Core.List.{List, [], _++_}
 use Prim.Native.Nat.{ℕ, _+_, _-_, _^_, min, _<_, _≤_}
 use lib.Dec.{ltb}
 use lib.ListN.{length, getD, set, take}

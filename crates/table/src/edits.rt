@@ -6,7 +6,6 @@ ghost use Rattle.std.specs.Slices.{Shuffled};
 ghost use Rattle.table.specs.Calls.{Becomes, Cleared, Inserts, Puts, Puts-exactly, Removes, Takes-last};
 ghost use Rattle.table.specs.Held.{held};
 ghost use Rattle.table.specs.Order.{Absent, Ascending, InOrder, Strict, insert-in};
-ghost use lib.ListN.{length};
 ghost use mathlib.Core.Bool.{Bool, true};
 ghost use mathlib.Core.List.{[], _++_, _∷_};
 ghost use mathlib.Core.Path.{_≡_};

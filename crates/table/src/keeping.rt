@@ -1,4 +1,3 @@
-ghost use Prim.Native.Nat.{ℕ};
 ghost use Rattle.std.specs.Vec.{made};
 ghost use Rattle.table.specs.Calls.{Kept, Keeps};
 ghost use Rattle.table.specs.Held.{held};

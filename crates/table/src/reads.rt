@@ -1,4 +1,3 @@
-ghost use Prim.Native.Nat.{_≤_};
 ghost use Rattle.std.specs.Options.{mapped};
 ghost use Rattle.std.specs.Vec.{made};
 ghost use Rattle.std.specs.shelf.Maps.{nth};

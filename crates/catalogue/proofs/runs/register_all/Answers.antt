@@ -1,4 +1,3 @@
-use borrow.Author.Needs.{needs}
 use mathlib.Core.Bool.{cond}
 use mathlib.Core.List.{map}
 use mathlib.Core.Path.{_≡_, sym, ap, subst, _∙_}

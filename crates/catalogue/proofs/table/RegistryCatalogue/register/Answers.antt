@@ -1,7 +1,7 @@
 use borrow.Author.Needs.{needs}
 use mathlib.Core.Bool.{true}
-use mathlib.Core.Path.{_≡_, refl, sym, ap, subst, _∙_}
-use Prim.Native.Nat.{ℕ, _+_, _-_, _≤_, _<_}
+use mathlib.Core.Path.{_≡_, refl, sym, ap}
+use Prim.Native.Nat.{_+_, _-_, _≤_, _<_}
 use lib.Dec.{ltb}
 use lib.ListN.{length, set}
 use Rattle.catalogue.specs.Entries.{lookup, registry}
@@ -10,7 +10,7 @@ use Rattle.catalogue.proofs.Listings.{lookup-none, lookup-push, lookup-set, pl
 use Rattle.std.proofs.shelf.Tests.{lt-ltb, or-left, or-right}
 use Rattle.std.specs.Of.Vec.{vec-items, vec-len}
 use Rattle.std.specs.Options.{isSome}
-use Rattle.std.specs.declared.option.Option.the-variants.{None, Some}
+use Rattle.std.specs.declared.option.Option.the-variants.{Some}
 use Rattle.catalogue.proofs.table.RegistryCatalogue.register.Needs as need
 
 pub returns-then-len-self : need.returns-then-len-self

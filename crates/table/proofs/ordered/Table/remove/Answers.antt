@@ -1,6 +1,5 @@
 use borrow.Author.Needs.{needs}
 use mathlib.Core.Path.{refl, sym, subst}
-use native.Mathlib.Omega.{arith}
 use Rattle.std.proofs.shelf.Maps.{nth-read}
 use Rattle.table.specs.Held.{held}
 use Rattle.table.specs.Order.{InOrder}

@@ -1,5 +1,4 @@
-use mathlib.Core.Bool.{true}
-use mathlib.Core.Path.{_≡_, refl, sym, ap, subst}
+use mathlib.Core.Path.{ap}
 use Rattle.std.specs.Orderings.{isLt}
 use Rattle.table.specs.Order.{in-order}
 use Rattle.text.specs.Names.{name-order}
