@@ -36,7 +36,7 @@ abbrev pub in-container : Container → Stands
 in-container Block = InBlock
 in-container Component = InComponent
 
--- n commands were read before
+-- what stands open, as far as a command asks; n commands were read before
 abbrev pub stands : ℕ → List Nest → Stands
 stands n [] = cond (eqb n 0) First Outside
 stands n (r ∷ rows) = in-container (r .container)
@@ -61,6 +61,7 @@ may-close Outside = false
 may-close InBlock = true
 may-close InComponent = true
 
+-- X only first; C where nothing is open; B and b never inside a component; E where something is open
 abbrev pub allowed : Stands → Command → Bool
 allowed s (Extends p) = may-extend s
 allowed s (Open o p) = may-open s (container-of o)

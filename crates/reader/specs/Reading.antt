@@ -63,18 +63,21 @@ after n s (Text p) = s
 after n s Close = record { rows = outward (s .rows); body = s .body }
 after n s End = s
 
+-- it is counted where it stands, before it opens or closes anything
 abbrev pub taken : ℕ → Standing → Command → Standing
 taken n s c = after n (counted (s .rows) (s .body)) c
 
--- the command that begins with byte b, with the bytes bs behind it, or why it is refused
+-- the command, unless there is a reason to refuse it
 abbrev pub answered : Option Reason → Command → Result Command Reason
 answered None c = Ok c
 answered (Some r) c = Err r
 
+-- is the command known, are its operands complete? and then the questions
 abbrev pub asked : List ℕ → List Entry → List Nest → List ℕ → Option Letter → Result Command Reason
 asked source before rows bs None = Err Unknown
 asked source before rows bs (Some l) = cond (ltb (length bs) (width l)) (Err Incomplete) (answered (fault-of source before rows (command-of l bs)) (command-of l bs))
 
+-- the command that begins with byte b, with the bytes bs behind it, or why it is refused
 abbrev pub turn : List ℕ → List Entry → List Nest → ℕ → List ℕ → Result Command Reason
 turn source before rows b bs = asked source before rows bs (letter-at b)
 

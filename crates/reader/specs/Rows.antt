@@ -1,4 +1,4 @@
--- How the reader holds what stands open. Assumes nothing.
+-- How the reader holds what stands open, and what its inner functions promise one another. Assumes nothing.
 use mathlib.Core.Path.{_≡_}
 use mathlib.Core.Logic.{_⊎_}
 use mathlib.Core.List.{List, [], _∷_}
