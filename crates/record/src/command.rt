@@ -1,30 +1,24 @@
 // The commands of a record, with their operands read.
 use crate::letter::Reference;
-use crate::letter::ReferenceDebug;
-use crate::letter::ReferencePartialEq;
 use text::part::Part;
-use text::part::PartDebug;
-use text::part::PartPartialEq;
 use text::span::Span;
-use text::span::SpanDebug;
-use text::span::SpanPartialEq;
 
 // What a container is.
-#[derive(Clone, Copy, Debug, PartialEq, Eq)]
+#[derive(Clone, Copy, PartialEq, Eq)]
 pub enum Container {
     Block,
     Component,
 }
 
 // What opens a container.
-#[derive(Clone, Copy, Debug, PartialEq, Eq)]
+#[derive(Clone, Copy)]
 pub enum Opener {
     Block(Span),
     PlainBlock,
     Component,
 }
 
-#[derive(Clone, Copy, Debug, PartialEq, Eq)]
+#[derive(Clone, Copy)]
 pub enum Command {
     Extends(Part),
     Open(Opener, Part),
@@ -36,14 +30,14 @@ pub enum Command {
 }
 
 // The container that a command stands directly in, by the place of its opener in the list of commands.
-#[derive(Clone, Copy, Debug, PartialEq, Eq)]
+#[derive(Clone, Copy)]
 pub enum Owner {
     Body,
     Container(usize),
 }
 
 // A command, the container that it stands directly in, and how many commands stand there before it.
-#[derive(Clone, Copy, Debug, PartialEq, Eq)]
+#[derive(Clone, Copy)]
 pub struct Entry {
     pub command: Command,
     pub owner: Owner,

@@ -1,10 +1,8 @@
 // Why a record is refused, and where.
 use text::fault::TextFault;
-use text::fault::TextFaultDebug;
-use text::fault::TextFaultPartialEq;
 
 // The questions that the reader asks of each command, in this order; the last is asked at the end.
-#[derive(Clone, Copy, Debug, PartialEq, Eq)]
+#[derive(Clone, Copy)]
 pub enum Reason {
     Unknown,
     Incomplete,
@@ -24,13 +22,13 @@ pub enum Layer {
 }
 
 // `at` is the place in the record, in bytes: of the command that is refused, or just after the last one read.
-#[derive(Clone, Copy, Debug, PartialEq, Eq)]
+#[derive(Clone, Copy)]
 pub struct RecordFault {
     pub reason: Reason,
     pub at: usize,
 }
 
-#[derive(Clone, Copy, Debug, PartialEq, Eq)]
+#[derive(Clone, Copy)]
 pub enum ReadError {
     Record(RecordFault),
     Memory,

@@ -1,7 +1,7 @@
 // What the thirteen command bytes stand for.
 
 // What a template refers to by name.
-#[derive(Clone, Copy, Debug, PartialEq, Eq)]
+#[derive(Clone, Copy)]
 pub enum Reference {
     Filter,
     Test,
@@ -10,7 +10,7 @@ pub enum Reference {
     Include,
 }
 
-#[derive(Clone, Copy, Debug, PartialEq, Eq)]
+#[derive(Clone, Copy)]
 pub enum Letter {
     Extends,
     // a block that may be reported on, since its span is known
@@ -25,7 +25,7 @@ pub enum Letter {
 }
 
 // A command byte, its letter and how many bytes each operand takes, in the order in which they follow.
-#[derive(Clone, Copy, Debug, PartialEq, Eq)]
+#[derive(Clone, Copy)]
 pub struct Layout {
     pub byte: u8,
     pub letter: Letter,

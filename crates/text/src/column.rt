@@ -2,11 +2,11 @@
 ghost use mathlib.Core.Path.{_≡_};
 ghost use Prim.Native.Nat.{_+_};
 
-#[derive(Clone, Copy, Debug, PartialEq, Eq)]
+#[derive(Clone, Copy)]
 pub struct StoredColumn(pub u32);
 
 // One bit wider would do: each stored column has a printed one.
-#[derive(Clone, Copy, Debug, PartialEq, Eq)]
+#[derive(Clone, Copy)]
 pub struct PrintedColumn(pub u64);
 
 pub impl From<StoredColumn> for PrintedColumn as PrintedFromStored {

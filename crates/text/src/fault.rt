@@ -1,6 +1,6 @@
 // What can be wrong with a text.
 
-#[derive(Clone, Copy, Debug, PartialEq, Eq)]
+#[derive(Clone, Copy)]
 pub enum TextFault {
     // a name of more than 255 bytes
     TooLong,

@@ -1,9 +1,7 @@
 // Where in its source a command was written: lines count from 1, columns from 0, and `from` to `to` are bytes.
 use crate::column::StoredColumn;
-use crate::column::StoredColumnDebug;
-use crate::column::StoredColumnPartialEq;
 
-#[derive(Clone, Copy, Debug, PartialEq, Eq)]
+#[derive(Clone, Copy)]
 pub struct Span {
     pub start_line: u32,
     pub start_col: StoredColumn,
