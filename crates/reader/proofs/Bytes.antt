@@ -1,17 +1,14 @@
 -- A command written and read again, and the other way round. Assumes nothing.
 use mathlib.Core.Path.{_≡_, refl, sym, ap, _∙_}
-use mathlib.Core.Bool.{Bool, true, false, cond}
 use mathlib.Core.List.{List, [], _∷_, _++_}
 use Prim.Native.Nat.{ℕ, zero, suc, _+_, _*_, _/_, _%_, _≤_, _<_}
 use native.Mathlib.Omega.{arith}
-use lib.Dec.{eqb}
 use lib.ListN.{length, take, drop, getD}
 use Rattle.std.proofs.shelf.Lists.{append-nil, drop-more}
 use Rattle.text.specs.declared.part.Part.{Part}
 use Rattle.text.specs.declared.span.Span.{Span}
 use Rattle.record.specs.declared.command.Command.{Command}
 use Rattle.record.specs.declared.command.Command.the-variants.{Extends, Open, Refer, Variable, Text, Close, End}
-use Rattle.record.specs.declared.command.Opener.{Opener}
 use Rattle.record.specs.declared.command.Opener.the-variants.{Block as block, PlainBlock as plain-block, Component as component}
 use Rattle.record.specs.declared.letter.Letter.{Letter}
 use Rattle.record.specs.declared.letter.Letter.the-variants.{Extends as X, Block as B, PlainBlock as b, Component as C, Refer as refers, Variable as V, Text as W, Close as E, End as Z}

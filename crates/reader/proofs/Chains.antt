@@ -2,22 +2,20 @@
 use mathlib.Core.Path.{_≡_, refl, sym, ap, subst, _∙_}
 use mathlib.Core.Bool.{Bool, true, false, cond}
 use mathlib.Core.List.{List, [], _∷_, _++_}
-use Prim.Native.Nat.{ℕ, zero, suc, _+_, _≤_, _<_}
+use Prim.Native.Nat.{ℕ, zero, suc, _+_, _≤_}
 use native.Mathlib.Omega.{arith}
 use lib.Dec.{ltb}
-use lib.ListN.{length, take, drop, getD}
+use lib.ListN.{length, take, drop}
 use Rattle.std.specs.declared.option.Option.{Option}
 use Rattle.std.specs.declared.option.Option.the-variants.{None, Some}
 use Rattle.std.specs.declared.result.Result.{Result}
 use Rattle.std.specs.declared.result.Result.the-variants.{Ok, Err}
-use Rattle.std.proofs.shelf.Lists.{append-nil, drop-at, length-append, take-append-drop}
+use Rattle.std.proofs.shelf.Lists.{drop-at, length-append, take-append-drop}
 use Rattle.std.proofs.shelf.Tests.{cond-false, le-ltb, ltb-false}
 use Rattle.record.specs.declared.command.Command.{Command}
-use Rattle.record.specs.declared.command.Command.the-variants.{End}
 use Rattle.record.specs.declared.command.Entry.{Entry}
 use Rattle.record.specs.declared.fault.Reason.{Reason}
 use Rattle.record.specs.declared.fault.Reason.the-variants.{Incomplete}
-use Rattle.record.specs.declared.fault.RecordFault.{RecordFault}
 use Rattle.record.specs.declared.letter.Letter.{Letter}
 use Rattle.reader.specs.declared.nest.Nest.{Nest}
 use Rattle.record.specs.Kinds.{is-end, letter-of}
@@ -29,7 +27,7 @@ use Rattle.reader.specs.Written.{written, written-operands}
 use Rattle.reader.proofs.Bytes.{Bytes, bytes-tail, command-again, command-back, length-operands}
 use Rattle.record.proofs.Lookup.{letter-found, letter-known}
 use Rattle.reader.proofs.Stepping.{letter-of-command}
-use Rattle.reader.proofs.Underway.{end-is, onward, read-ended, read-taken, skipped, turned}
+use Rattle.reader.proofs.Underway.{end-is, onward, read-ended, read-taken, turned}
 
 -- From `es` and what stands then, the commands are each taken in turn, up to Z where nothing is open, and `out` are all the entries.
 pub data Chain (source : List ℕ) : List Entry → Standing → List Command → List Entry → Type 0 where

@@ -2,7 +2,7 @@
 use mathlib.Core.Path.{_≡_, refl, sym, ap, subst, _∙_}
 use mathlib.Core.Bool.{Bool, true, false, cond, _&&_, _||_}
 use mathlib.Core.List.{List, [], _∷_, _++_, map}
-use Prim.Native.Nat.{ℕ, zero, suc, _+_, _≤_, _<_}
+use Prim.Native.Nat.{ℕ, suc, _+_, _<_}
 use native.Mathlib.Omega.{arith}
 use lib.Dec.{leb, ltb}
 use lib.ListN.{length}
@@ -12,7 +12,7 @@ use Rattle.std.specs.declared.result.Result.{Result}
 use Rattle.std.specs.declared.result.Result.the-variants.{Ok, Err}
 use Rattle.std.specs.shelf.Lists.{All}
 use Rattle.std.proofs.shelf.Lists.{append-assoc, length-map, length-push, map-push}
-use Rattle.std.proofs.shelf.Tests.{and-from, and-parts, both-ways, cond-true, cond-false, false≢true, le-leb, leb-true, lt-ltb, ltb-true}
+use Rattle.std.proofs.shelf.Tests.{and-from, and-parts, cond-true, cond-false, le-leb, leb-true, lt-ltb, ltb-true}
 use Rattle.text.specs.Lines.{breaks}
 use Rattle.text.specs.Spans.{lawful-in}
 use Rattle.text.specs.Texts.{inside, part-bytes, part-fault}
@@ -30,7 +30,7 @@ use Rattle.record.specs.declared.command.Entry.{Entry}
 use Rattle.record.specs.declared.fault.ReadError.{ReadError}
 use Rattle.record.specs.declared.fault.ReadError.the-variants.{Record, Memory}
 use Rattle.record.specs.declared.fault.Reason.{Reason}
-use Rattle.record.specs.declared.fault.Reason.the-variants.{Text as NotText, Span as NotLawful, Misplaced, Repeated, TooDeep}
+use Rattle.record.specs.declared.fault.Reason.the-variants.{Span as NotLawful, Misplaced, Repeated, TooDeep}
 use Rattle.record.specs.declared.fault.RecordFault.{RecordFault}
 use Rattle.reader.specs.declared.listing.Listing.{Listing}
 use Rattle.reader.specs.declared.nest.Nest.{Nest}
@@ -38,7 +38,7 @@ use Rattle.record.specs.Kinds.{opens, part-of, span-of}
 use Rattle.record.specs.Openers.{opens-named}
 use Rattle.reader.specs.Places.{commands-of}
 use Rattle.reader.specs.Questions.{Standing, allowed, asks-depth, asks-new, asks-part, asks-span, declared, fault-of, not-text, operand-fault, or-else, place-fault, stands}
-use Rattle.reader.specs.Reading.{counted, entry, read, taken}
+use Rattle.reader.specs.Reading.{entry, read, taken}
 use Rattle.reader.specs.Records.{Accepted, Judged, Reads, entries-of}
 use Rattle.reader.specs.WellFormed.{Distinct, Holds, Lawful, Text-inside, Well-formed, names}
 use Rattle.reader.specs.Written.{written}

@@ -4,21 +4,17 @@ use mathlib.Core.Bool.{Bool, true, false, cond, _&&_, _||_}
 use mathlib.Core.Logic.{⊎-elim}
 use mathlib.Core.List.{List, [], _∷_, _++_}
 use Prim.Native.Nat.{ℕ}
-use native.Mathlib.Omega.{arith}
 use Rattle.std.specs.declared.option.Option.{Option}
 use Rattle.std.specs.declared.option.Option.the-variants.{None, Some}
 use Rattle.std.specs.shelf.Lists.{All}
 use Rattle.std.specs.shelf.Text.{sameBytes}
 use Rattle.std.proofs.shelf.Elements.{all-append, all-weaker}
 use Rattle.std.proofs.shelf.Equals.{sameBytes-decides}
-use Rattle.std.proofs.shelf.Tests.{both-ways, cases-bool, cond-true, cond-false, false≢true, or-parts, or-from}
+use Rattle.std.proofs.shelf.Tests.{both-ways, cases-bool, false≢true, or-parts, or-from}
 use Rattle.text.specs.Texts.{part-bytes}
 use Rattle.text.specs.declared.part.Part.{Part}
 use Rattle.record.specs.declared.command.Command.{Command}
 use Rattle.record.specs.declared.command.Container.{Container}
-use Rattle.record.specs.declared.command.Container.the-variants.{Block, Component}
-use Rattle.record.specs.declared.fault.Reason.{Reason}
-use Rattle.record.specs.declared.fault.Reason.the-variants.{Repeated}
 use Rattle.record.specs.Kinds.{opens}
 use Rattle.record.specs.Openers.{opens-named, same-container}
 use Rattle.reader.specs.WellFormed.{Distinct, Holds, names, names-from}

@@ -1,7 +1,7 @@
 -- The reader's rows tell the innermost container and how many commands stand in it. Assumes nothing.
 use mathlib.Core.Path.{_≡_, refl, sym, ap, subst, _∙_}
-use mathlib.Core.Bool.{Bool, true, false, cond}
-use mathlib.Core.List.{List, [], _∷_, _++_, map}
+use mathlib.Core.Bool.{Bool, true, cond}
+use mathlib.Core.List.{List, [], _∷_, _++_}
 use Prim.Native.Nat.{ℕ, zero, suc, _+_, _≤_, _<_}
 use native.Mathlib.Omega.{arith}
 use lib.Dec.{eqb}
@@ -20,7 +20,7 @@ use Rattle.text.specs.declared.part.Part.{Part}
 use Rattle.record.specs.Kinds.{container-of}
 use Rattle.reader.specs.Places.{commands-of, count-in, innermost, placed, same-owner, stands-in}
 use Rattle.reader.specs.Questions.{Standing}
-use Rattle.reader.specs.Reading.{after, counted, entry, outward, owner-in, place-in, pushed, raised, taken}
+use Rattle.reader.specs.Reading.{counted, entry, outward, owner-in, place-in, pushed, raised, taken}
 use Rattle.reader.proofs.Chains.{Chain}
 use Rattle.reader.proofs.Chains.Chain.{last, next}
 

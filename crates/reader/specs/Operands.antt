@@ -6,7 +6,6 @@ use Rattle.text.specs.declared.part.Part.{Part}
 use Rattle.text.specs.declared.span.Span.{Span}
 use Rattle.record.specs.declared.command.Command.{Command}
 use Rattle.record.specs.declared.command.Command.the-variants.{Extends, Open, Refer, Variable, Text, Close, End}
-use Rattle.record.specs.declared.command.Opener.{Opener}
 use Rattle.record.specs.declared.command.Opener.the-variants.{Block as block, PlainBlock as plain-block, Component as component}
 use Rattle.record.specs.declared.letter.Letter.{Letter}
 use Rattle.record.specs.declared.letter.Letter.the-variants.{Extends as x, Block as B, PlainBlock as b, Component as C, Refer as refers, Variable as V, Text as W, Close as E, End as Z}

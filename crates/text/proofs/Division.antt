@@ -1,16 +1,14 @@
 -- A source divided into lines. Assumes nothing.
-use mathlib.Core.Path.{_≡_, refl, sym, ap, _∙_}
+use mathlib.Core.Path.{_≡_, refl, ap, _∙_}
 use mathlib.Core.Bool.{Bool, true, false, cond}
-use mathlib.Core.Logic.{⊎-elim}
 use mathlib.Core.List.{List, [], _∷_, _++_}
 use Prim.Native.Nat.{ℕ, zero, suc, _+_, _-_, _≤_, _<_}
 use native.Mathlib.Omega.{arith}
 use lib.Dec.{eqb}
 use lib.ListN.{length, getD}
-use Rattle.std.specs.declared.option.Option.{Option}
 use Rattle.std.specs.declared.option.Option.the-variants.{None, Some}
 use Rattle.std.specs.shelf.Maps.{nth}
-use Rattle.std.proofs.shelf.Tests.{cond-true, cond-false, cases-bool, eq-eqb, ne-eqb}
+use Rattle.std.proofs.shelf.Tests.{cond-false, ne-eqb}
 use Rattle.text.specs.Lines.{breaks, in-front, line-at, lines}
 
 pub breaks-le : (bs : List ℕ) → breaks bs ≤ length bs

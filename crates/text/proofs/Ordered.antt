@@ -1,6 +1,5 @@
 -- The order of names is total. Assumes nothing.
 use mathlib.Core.Path.{_≡_, refl, sym, ap, _∙_}
-use mathlib.Core.Bool.{true, false, cond}
 use mathlib.Core.List.{List, [], _∷_, _++_}
 use Prim.Native.Nat.{ℕ, _<_}
 use native.Mathlib.Omega.{arith}
@@ -11,7 +10,7 @@ use Rattle.std.specs.Keys.{unsigned, rank, means, below-irrefl, below-chain, ra
 use Rattle.std.specs.Lexical.{lexical}
 use Rattle.std.specs.Orderings.{thenBy}
 use Rattle.std.proofs.shelf.Ways.{tells}
-use Rattle.text.specs.Names.{byte-order, name-bytes, name-order, In-order, Names-in-order}
+use Rattle.text.specs.Names.{byte-order, name-bytes, name-order, Names-in-order}
 
 both-equal : (a b : Ordering) → thenBy a b ≡ Equal → (a ≡ Equal) × (b ≡ Equal)
 both-equal Less b e = absurd (let z : _≡_ {A = ℕ} 0 1 = cc in omega arith)
