@@ -1,4 +1,6 @@
 //! The built-in names: the catalogue that every template may count on.
+#![tactic(auto)]
+
 mod names;
 mod rows;
 

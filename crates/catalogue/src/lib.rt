@@ -1,4 +1,6 @@
 //! Catalogues: which number a filter, a test or a function of the host has, by its name.
+#![tactic(auto)]
+
 mod entries;
 mod kinds;
 mod layers;

@@ -1,4 +1,6 @@
 //! Catalogues at work: a layer of one's own over the built-in names, and cases that are run.
+#![tactic(auto)]
+
 ghost use Rattle.builtin.specs.Table.{builtin};
 ghost use Rattle.catalogue.specs.Entries.{empty};
 ghost use Rattle.catalogue.specs.Meaning.{over};

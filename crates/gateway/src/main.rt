@@ -1,4 +1,6 @@
 // Reads the records of a small collection of message templates, and tells what each says.
+#![tactic(auto)]
+
 mod samples;
 mod show;
 

@@ -22,7 +22,7 @@ fn name_operand(operands: &[u8]) -> (Part, &[u8])
     ensures rest { result.1.now ≡ drop 3 operands.now }
 {
     let [high, low, length, rest @ ..] = operands else {
-        unreachable()
+        unreachable!()
     };
     let name = Part {
         start: two(*high, *low),
@@ -36,7 +36,7 @@ fn text_operand(operands: &[u8]) -> Part
     ensures { result ≡ text_operand operands.now }
 {
     let [high, low, length_high, length_low, ..] = operands else {
-        unreachable()
+        unreachable!()
     };
     Part {
         start: two(*high, *low),

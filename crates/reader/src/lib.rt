@@ -1,4 +1,6 @@
 // The reader: a record is read once, command by command, and kept as a list.
+#![tactic(auto)]
+
 pub mod commands;
 pub mod listing;
 pub mod listings;

@@ -1,4 +1,5 @@
 // The edges of the record format, run.
+#![tactic(auto)]
 
 #[cfg(test)]
 mod tests {

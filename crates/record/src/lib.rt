@@ -1,4 +1,6 @@
 // The commands of a record: their letters, their operands, and why a record is refused.
+#![tactic(auto)]
+
 pub mod command;
 pub mod fault;
 pub mod faults;

@@ -17,7 +17,7 @@ impl<R> Table<R> {
     {
         match self.rows.insert(place, row) {
             Ok(()) => {}
-            Err(_) => unreachable(),
+            Err(_) => unreachable!(),
         }
     }
 

@@ -1,4 +1,6 @@
 //! An ordered table: rows that stand in order, in room that is reserved when the table is made.
+#![tactic(auto)]
+
 mod edits;
 mod keeping;
 mod names;

@@ -1,4 +1,6 @@
 //! The ordered table at work: rows of two orders, and cases that are run.
+#![tactic(auto)]
+
 mod calling;
 mod roll;
 #[cfg(test)]

@@ -1,4 +1,6 @@
 // Text as the templates have it: names, parts and lines of a source, spans and columns.
+#![tactic(auto)]
+
 pub mod column;
 pub mod fault;
 pub mod lines;

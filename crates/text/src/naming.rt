@@ -42,7 +42,7 @@ impl Name {
     {
         match from_utf8(self.as_bytes()) {
             Ok(text) => text,
-            Err(_) => unreachable(),
+            Err(_) => unreachable!(),
         }
     }
 }

@@ -9,14 +9,14 @@ loop-init c = (search rules, line_at_place c.args.source.now c.args.n c.if-n-eq0
 
 pub loop-preserved : goal.loop-preserved
 loop-preserved c =
-    let told = c.in-ok-below.ensures.cases in
-    let cut = split_parts 10 c.loop.rest.now (Some (c.in-ok-below.field-0-0, c.in-ok-below.below)) told (omega arith) in
+    let told = c.in_ok-below.ensures.cases in
+    let cut = split_parts 10 c.loop.rest.now (Some (c.in_ok-below.field-0-0, c.in_ok-below.below)) told (omega arith) in
     (search rules, sym (line_below c.loop.rest.now (c.args.n - c.loop.counter) _ _ (c.args.n - (c.loop.counter + 1)) cut (omega arith)) ∙ c.loop.invariant.1)
 
-pub returns-in-err-below : goal.returns-in-err-below
-returns-in-err-below c =
-    let cut = split_parts 10 c.loop.rest.now None c.in-err-below.ensures.cases (omega arith) in
-    ap (option_map (λ x. x.now)) c.from-residual.ensures ∙ sym (line_none c.loop.rest.now (c.args.n - c.loop.counter) cut (c.args.n - (c.loop.counter + 1)) (omega arith)) ∙ c.loop.invariant.1
+pub returns-in_err-below : goal.returns-in_err-below
+returns-in_err-below c =
+    let cut = split_parts 10 c.loop.rest.now None c.in_err-below.ensures.cases (omega arith) in
+    ap (option_map (λ x. x.now)) c.from_residual.ensures ∙ sym (line_none c.loop.rest.now (c.args.n - c.loop.counter) cut (c.args.n - (c.loop.counter + 1)) (omega arith)) ∙ c.loop.invariant.1
 
 pub returns-in-Some : goal.returns-in-Some
 returns-in-Some c =

@@ -8,5 +8,5 @@ use Rattle.builtin.proofs.rows.Known.is.Goals as goal
 pub returns-then-eq : goal.returns-then-eq
 returns-then-eq c =
     same_from_decides _ _ (slice_eq-Decides Decides-eqb _ _ _ c.eq-then-eq.ensures) (bytes_eq-Decides _ _)
-    ∙ ap (λ n. bytes_eq n c.args.name.now) c.as-bytes.ensures.value
+    ∙ ap (λ n. bytes_eq n c.args.name.now) c.as_bytes.ensures.value
     ∙ sym (kind_and c.args.self.now.0 c.args.kind _ c.if-eq.ensures)

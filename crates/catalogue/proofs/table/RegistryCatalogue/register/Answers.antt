@@ -22,12 +22,12 @@ returns-in-Some c =
     let t = c.args.self.now in
     let es = vec_items t.entries in
     let p = t.limit - vec_len t.entries in
-    let e = c.index-mut.result.now in
+    let e = c.index_mut.result.now in
     let placed = c.in-Some.ensures in
     let fits : length n ≤ 63 = search rules in
     let held : is_some (lookup es k n) ≡ true = sym (placed_held es k n (Some c.in-Some.i) placed) in
     taken 63 (registry t) k n fits x _ (or_left _ (ltb 0 p) held)
-    (wrote es (set es c.in-Some.i (record { kind = e.kind; name = e.name; number = x })) p _ k n x (lookup_set es k n x c.in-Some.i e placed c.index-mut.ensures.value) (none_paid p (is_some (lookup es k n)) held))
+    (wrote es (set es c.in-Some.i (record { kind = e.kind; name = e.name; number = x })) p _ k n x (lookup_set es k n x c.in-Some.i e placed c.index_mut.ensures.value) (none_paid p (is_some (lookup es k n)) held))
 
 pub returns-else-len-self : goal.returns-else-len-self
 returns-else-len-self c =
@@ -41,8 +41,8 @@ returns-else-len-self c =
     let fits : length n ≤ 63 = search rules in
     let room : 0 < p = search rules in
     let free = ap is_some (lookup_none es k n absent) in
-    let pays : (t.limit - vec_len c.push-reserved.new.self) + 1 ≡ p = search rules in
+    let pays : (t.limit - vec_len c.push_reserved.new.self) + 1 ≡ p = search rules in
     let looked = lookup_push es k n (record { kind = k; name = c.new-name.result; number = x }) absent refl c.new-name.ensures in
-    let pushed = rw (sym c.push-reserved.ensures.items) at looked in
+    let pushed = rw (sym c.push_reserved.ensures.items) at looked in
     taken 63 (registry t) k n fits x _ (or_right (is_some (lookup es k n)) (ltb 0 p) (lt-ltb 0 p room))
-    (wrote es (vec_items c.push-reserved.new.self) p _ k n x pushed (one_paid p _ (is_some (lookup es k n)) free pays))
+    (wrote es (vec_items c.push_reserved.new.self) p _ k n x pushed (one_paid p _ (is_some (lookup es k n)) free pays))

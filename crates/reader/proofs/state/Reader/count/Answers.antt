@@ -6,8 +6,8 @@ use Rattle.reader.specs.declared.nest.Nest.{Nest}
 use Rattle.reader.proofs.Held.{counted_body, counted_inner, counts_more, counts_raised}
 use Rattle.reader.proofs.state.Reader.count.Goals as goal
 
-pub overflow-add-self-else-self-eq0 : goal.overflow-add-self-else-self-eq0
-overflow-add-self-else-self-eq0 c =
+pub overflow_add-self-else-self-eq0 : goal.overflow_add-self-else-self-eq0
+overflow_add-self-else-self-eq0 c =
     let r = c.args.self.now in
     let few = All-get_or (λ (n : Nest). n.commands ≤ r.taken) r.nests (r.depth - 1) unused (omega (arith, c.requires.sound.depth)) c.requires.sound.counts in
     record { fits = omega (arith, few, c.requires.sound.taken, c.requires.shorter) }

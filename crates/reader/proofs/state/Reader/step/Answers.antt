@@ -11,8 +11,8 @@ use Rattle.reader.specs.Rows.{standing}
 use Rattle.reader.proofs.Stepping.{known_layout, known_width, letter_of_command, stepped_refused, stepped_taken, turn_operand, turn_place, turn_taken}
 use Rattle.reader.proofs.state.Reader.step.Goals as goal
 
-pub returns-in-err-check : goal.returns-in-err-check
-returns-in-err-check c =
+pub returns-in_err-check : goal.returns-in_err-check
+returns-in_err-check c =
     let r = c.args.self.now in
     let rest = r.rest.now in
     let some : 0 < length rest = omega (arith, ltb-false) in
@@ -21,12 +21,12 @@ returns-in-err-check c =
     let known = known_layout (get_or rest 0 0) y c.in-Some.ensures.row in
     let wide = known_width y known.1 in
     let fits : width y.letter ≤ length bs = omega (arith, c.if-after-width.false, wide) in
-    let p = err_from_is_err_and c.from-residual.result c.from-residual.ensures.1 in
-    let fault = sym (ap (operand_fault r.source.now) c.command-command.ensures) ∙ c.in-err-check.ensures in
-    stepped_refused r r c.args.before.now rest (get_or rest 0 0) bs (first_rest rest 0 some) c.from-residual.result c.in-err-check.field-0.0 (p.1 ∙ ap Err p.2) (turn_operand r.source.now c.args.before.now (standing r).rows (get_or rest 0 0) bs y.letter known.0 fits _ fault) refl
+    let p = err_from_is_err_and c.from_residual.result c.from_residual.ensures.1 in
+    let fault = sym (ap (operand_fault r.source.now) c.command-command.ensures) ∙ c.in_err-check.ensures in
+    stepped_refused r r c.args.before.now rest (get_or rest 0 0) bs (first_rest rest 0 some) c.from_residual.result c.in_err-check.field-0.0 (p.1 ∙ ap Err p.2) (turn_operand r.source.now c.args.before.now (standing r).rows (get_or rest 0 0) bs y.letter known.0 fits _ fault) refl
 
-pub returns-in-err-admit : goal.returns-in-err-admit
-returns-in-err-admit c =
+pub returns-in_err-admit : goal.returns-in_err-admit
+returns-in_err-admit c =
     let r = c.args.self.now in
     let rest = r.rest.now in
     let some : 0 < length rest = omega (arith, ltb-false) in
@@ -35,10 +35,10 @@ returns-in-err-admit c =
     let known = known_layout (get_or rest 0 0) y c.in-Some.ensures.row in
     let wide = known_width y known.1 in
     let fits : width y.letter ≤ length bs = omega (arith, c.if-after-width.false, wide) in
-    let p = err_from_is_err_and c.from-residual-in-err-admit.result c.from-residual-in-err-admit.ensures.1 in
-    let operands = sym (ap (operand_fault r.source.now) c.command-command.ensures) ∙ c.in-ok-check.ensures in
-    let fault = sym (ap (place_fault r.source.now c.args.before.now (standing r).rows) c.command-command.ensures) ∙ c.in-err-admit.ensures.0 in
-    stepped_refused r c.admit.new.self c.args.before.now rest (get_or rest 0 0) bs (first_rest rest 0 some) c.from-residual-in-err-admit.result c.in-err-admit.field-0.0 (p.1 ∙ ap Err p.2) (turn_place r.source.now c.args.before.now (standing r).rows (get_or rest 0 0) bs y.letter known.0 fits _ operands fault) c.in-err-admit.ensures.1
+    let p = err_from_is_err_and c.from_residual-in_err-admit.result c.from_residual-in_err-admit.ensures.1 in
+    let operands = sym (ap (operand_fault r.source.now) c.command-command.ensures) ∙ c.in_ok-check.ensures in
+    let fault = sym (ap (place_fault r.source.now c.args.before.now (standing r).rows) c.command-command.ensures) ∙ c.in_err-admit.ensures.0 in
+    stepped_refused r c.admit.new.self c.args.before.now rest (get_or rest 0 0) bs (first_rest rest 0 some) c.from_residual-in_err-admit.result c.in_err-admit.field-0.0 (p.1 ∙ ap Err p.2) (turn_place r.source.now c.args.before.now (standing r).rows (get_or rest 0 0) bs y.letter known.0 fits _ operands fault) c.in_err-admit.ensures.1
 
 pub returns : goal.returns
 returns c =
@@ -53,7 +53,7 @@ returns c =
     let is = c.command-command.ensures in
     let letter = ap letter_of is ∙ letter_of_command y.letter bs in
     let same = ap width letter in
-    let operands = sym (ap (operand_fault r.source.now) is) ∙ c.in-ok-check.ensures in
-    let place = sym (ap (place_fault r.source.now c.args.before.now (standing r).rows) is) ∙ c.in-ok-admit.ensures.0 in
+    let operands = sym (ap (operand_fault r.source.now) is) ∙ c.in_ok-check.ensures in
+    let place = sym (ap (place_fault r.source.now c.args.before.now (standing r).rows) is) ∙ c.in_ok-admit.ensures.0 in
     let told = turn_taken r.source.now c.args.before.now (standing r).rows (get_or rest 0 0) bs y.letter known.0 fits operands place in
-    stepped_taken r c.admit.new.self c.args.before.now rest (get_or rest 0 0) bs (first_rest rest 0 some) c.here-entry.result c.command-command.result _ c.here-entry.ensures (told ∙ ap Ok (sym is)) c.in-ok-admit.ensures.1 c.in-ok-admit.ensures.2 (take_rest bs _ ∙ ap (λ (n : ℕ). drop n bs) (wide ∙ sym same)) (omega (arith, fits, same))
+    stepped_taken r c.admit.new.self c.args.before.now rest (get_or rest 0 0) bs (first_rest rest 0 some) c.here-entry.result c.command-command.result _ c.here-entry.ensures (told ∙ ap Ok (sym is)) c.in_ok-admit.ensures.1 c.in_ok-admit.ensures.2 (take_rest bs _ ∙ ap (λ (n : ℕ). drop n bs) (wide ∙ sym same)) (omega (arith, fits, same))

@@ -22,7 +22,7 @@ returns-then-len-self g c =
     let free : length xs < t.limit = search rules in
     let there = c.place-place.ensures.there in
     let rows = c.put.ensures.rows ∙ sym (room_cut t.limit xs (insert_in cmp x xs) x c.place-place.result at free there) in
-    let came = c.put.ensures.came ∙ c.saturating-add-self.ensures in
+    let came = c.put.ensures.came ∙ c.saturating_add-self.ensures in
     record {
       does = record { rows = rows; whole = append-nil (held c.put.new.self) ∙ c.put.ensures.rows ∙ there; limit = c.put.ensures.limit; came = came };
       first = λ all k. kept_more cmp all x t c.put.new.self rows c.put.ensures.limit came k;
@@ -42,8 +42,8 @@ returns-then-place-self g c =
     let whole = last_whole xs (insert_in cmp x xs) x c.place-place.result end c.place-place.ensures.there in
     let rows = whole_cut t.limit xs (x ∷ []) (insert_in cmp x xs) whole full in
     record {
-      does = record { rows = rows; whole = whole; limit = refl; came = c.saturating-add-self.ensures };
-      first = λ all k. kept_more cmp all x t _ rows refl c.saturating-add-self.ensures k;
+      does = record { rows = rows; whole = whole; limit = refl; came = c.saturating_add-self.ensures };
+      first = λ all k. kept_more cmp all x t _ rows refl c.saturating_add-self.ensures k;
       ascending = λ a. a;
     }
 
@@ -63,7 +63,7 @@ returns g c =
     let put = c.put-2.ensures.rows in
     let whole = ap (λ ws. ws ++ os) put ∙ driven_whole xs zs os (insert_in cmp x xs) x c.place-place.result c.pop-last.ensures.items at c.place-place.ensures.there in
     let rows = whole_cut t.limit (held c.put-2.new.self) os (insert_in cmp x xs) whole (ap length put ∙ length-insert zs c.place-place.result x at ∙ full) in
-    let came = c.put-2.ensures.came ∙ c.saturating-add-self.ensures in
+    let came = c.put-2.ensures.came ∙ c.saturating_add-self.ensures in
     record {
       does = record { rows = rows; whole = whole; limit = c.put-2.ensures.limit; came = came };
       first = λ all k. kept_more cmp all x t c.put-2.new.self rows c.put-2.ensures.limit came k;

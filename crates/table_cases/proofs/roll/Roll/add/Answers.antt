@@ -4,8 +4,8 @@ use Rattle.table.proofs.Tested.{order_from_test, test_from_order}
 use Rattle.text.specs.Names.{name_order}
 use Rattle.table_cases.proofs.roll.Roll.add.Goals as goal
 
-pub invariant-of-self : goal.invariant-of-self
-invariant-of-self c =
+pub invariant_of-self : goal.invariant_of-self
+invariant_of-self c =
     let strict = order_from_test (λ a b. is_lt (name_order a b)) (held c.args.self.now.names) c.args.self.now.strict in
     (test_from_order (λ a b. is_lt (name_order a b)) (held c.replace.new.self) (c.replace.ensures.strict strict), tt)
 

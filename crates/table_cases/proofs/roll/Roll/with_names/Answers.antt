@@ -4,5 +4,5 @@ use Rattle.table.specs.Order.{in_order}
 use Rattle.text.specs.Names.{name_order}
 use Rattle.table_cases.proofs.roll.Roll.with_names.Goals as goal
 
-pub invariant-of-result : goal.invariant-of-result
-invariant-of-result c = (ap (in_order (λ a b. is_lt (name_order a b))) c.in-ok-names.ensures.rows, tt)
+pub invariant_of-result : goal.invariant_of-result
+invariant_of-result c = (ap (in_order (λ a b. is_lt (name_order a b))) c.in_ok-names.ensures.rows, tt)

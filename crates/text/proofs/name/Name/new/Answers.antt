@@ -4,17 +4,17 @@ use Rattle.text.proofs.Cut.{front}
 use Rattle.text.proofs.Decoding.{utf8_decides, not_utf8}
 use Rattle.text.proofs.name.Name.new.Goals as goal
 
-pub returns-in-default : goal.returns-in-default
-returns-in-default c = (omega arith, not_utf8 _ c.in-default.ensures.cases.0)
+pub returns-in_default : goal.returns-in_default
+returns-in_default c = (omega arith, not_utf8 _ c.in_default.ensures.cases.0)
 
-pub invariant-of-result : goal.invariant-of-result
-invariant-of-result c =
+pub invariant_of-result : goal.invariant_of-result
+invariant_of-result c =
     let told = c.in-Ok.ensures.cases in
-    let copied = c.copy-from-slice.ensures.after ∙ c.as-bytes.ensures.value ∙ told.0 in
+    let copied = c.copy_from_slice.ensures.after ∙ c.as_bytes.ensures.value ∙ told.0 in
     (ap utf8 (front _ _ _ _ copied (ap length told.0)) ∙ (utf8_decides _).1 told.1, tt)
 
 pub returns : goal.returns
 returns c =
     let told = c.in-Ok.ensures.cases in
-    let copied = c.copy-from-slice.ensures.after ∙ c.as-bytes.ensures.value ∙ told.0 in
+    let copied = c.copy_from_slice.ensures.after ∙ c.as_bytes.ensures.value ∙ told.0 in
     (omega arith, (utf8_decides _).1 told.1, front _ _ _ _ copied (ap length told.0))

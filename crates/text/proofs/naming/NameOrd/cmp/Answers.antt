@@ -6,5 +6,5 @@ use Rattle.std.specs.Ordering.{nat_cmp}
 
 pub returns : goal.returns
 returns c =
-    lex-says nat_cmp_total c.as-bytes.result.now c.as-bytes-2.result.now _ c.cmp.ensures
-    ∙ (λ i. slice_cmp nat_cmp (c.as-bytes.ensures i) (c.as-bytes-2.ensures i))
+    lex-says nat_cmp_total c.as_bytes.result.now c.as_bytes-2.result.now _ c.cmp.ensures
+    ∙ (λ i. slice_cmp nat_cmp (c.as_bytes.ensures i) (c.as_bytes-2.ensures i))
