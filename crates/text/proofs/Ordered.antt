@@ -1,7 +1,7 @@
 -- The order of names is total. Assumes nothing.
 use Rattle.std.proofs.Common.{◌≡◌, ℕ, ◌<◌, List, [], ◌∷◌, ◌++◌, length, Ordering, Less, Equal, Greater, sym, refl, ap, ◌∙◌, arith}
-use Rattle.std.specs.Cmp.{nat_cmp_total, means, below_irrefl, below_chain, ranks}
-use Rattle.std.specs.Cmp.Lexicographic.{lexical}
+use Rattle.std.specs.Cmp.{means, below_irrefl, below_chain, ranks}
+use Rattle.std.specs.Cmp.Lexicographic.{on_texts}
 use Rattle.std.specs.Ordering.{ordering_then, nat_cmp}
 use Rattle.std.proofs.lemmas.Bool.Decides.{nat_tests}
 use Rattle.text.specs.Names.{byte_order, name_bytes, name_order, NamesInOrder}
@@ -36,13 +36,7 @@ order_beginning (x ∷ xs) ys h = ap (λ o. ordering_then o (byte_order xs (xs +
 
 pub names_in_order : NamesInOrder
 names_in_order = record {
-  total = record {
-    cmp = name_order;
-    says = λ a b r h. h;
-    flip = λ a b. (lexical nat_cmp_total).flip (name_bytes a) (name_bytes b);
-    trans = λ a b c. (lexical nat_cmp_total).trans (name_bytes a) (name_bytes b) (name_bytes c);
-    alike = λ a b c. (lexical nat_cmp_total).alike (name_bytes a) (name_bytes b) (name_bytes c);
-  };
+  total = on_texts name_bytes;
   ties = λ a b. order_ties (name_bytes a) (name_bytes b);
   itself = λ a b e. ap (λ bs. byte_order (name_bytes a) bs) (sym e) ∙ order_itself (name_bytes a);
   beginning = order_beginning;

@@ -29,7 +29,7 @@ name_order a b = byte_order (name_bytes a) (name_bytes b)
 
 -- The order of names, in the form that an ordered table asks of its rows, and what ties and beginnings mean.
 pub record InOrder : Type 0 where
-  pub total : IsTotalOrder {K = Name} (λ a b r. r ≡ name_order a b)
+  pub total : IsTotalOrder name_order
   pub ties : (a b : Name) → name_order a b ≡ Equal → name_bytes a ≡ name_bytes b
   pub itself : (a b : Name) → name_bytes a ≡ name_bytes b → name_order a b ≡ Equal
   pub beginning : (bs cs : List ℕ) → 0 < length cs → byte_order bs (bs ++ cs) ≡ Less

@@ -1,10 +1,10 @@
 // How a name is made, read and ordered.
-ghost use Rattle.std.specs.Prelude.{◌≡◌, Some, Decides, refl};
-ghost use Rattle.text.specs.Names.{Named, NamesInOrder, name_bytes, name_order};
+ghost use Rattle.std.specs.Prelude.{◌≡◌, Decides};
 ghost use Rattle.std.specs.Cmp.Rules.{comparing};
-ghost use Rattle.std.proofs.Common.{rules, arith};
-ghost use Rattle.std.specs.Cmp as Keys;
-ghost use Rattle.std.specs.Cmp.{partial_order_from_agreeing_total};
+ghost use Rattle.std.specs.Ordering.{as_partial_cmp, on};
+ghost use Rattle.std.specs.Str.{bytes_eq};
+ghost use Rattle.std.proofs.Common.{rules};
+ghost use Rattle.text.specs.Names.{Named, NamesInOrder, name_bytes, name_order};
 
 use crate::fault::TextFault;
 use crate::name::Name;
@@ -48,23 +48,26 @@ impl Name {
 }
 
 impl PartialEq for Name {
-    ghost equals = { λ a b r. Decides r (name_bytes a ≡ name_bytes b) };
+    ghost eq = { on name_bytes bytes_eq };
 
-    ghost laws = { Keys.partial_equiv_from_equiv (first_of (Prim.search (comparing, rules), Prim.grind (arith, Self.row.coded.inj))) };
+    ghost laws = { Prim.search (comparing, rules) };
 
-    fn eq(&self, other: &Name) -> bool {
+    fn eq(&self, other: &Name) -> bool
+        ensures value { result ≡ bytes_eq (name_bytes self.now) (name_bytes other.now) }
+        ensures decides { Decides result (name_bytes self.now ≡ name_bytes other.now) }
+    {
         self.as_bytes() == other.as_bytes()
     }
 }
 
 impl Eq for Name {
-    ghost laws = { first_of (Prim.search (comparing, rules), Prim.grind (arith, Self.row.coded.inj)) };
+    ghost laws = { Prim.search (comparing, rules) };
 }
 
 impl PartialOrd for Name {
-    ghost partial_cmp = { λ a b. Some (name_order a b) };
+    ghost partial_cmp = { as_partial_cmp name_order };
 
-    ghost laws = { partial_order_from_agreeing_total (λ a b. name_order a b) (first_of (Prim.search (comparing, rules), Prim.grind (arith, Self.row.coded.inj))) (λ _ _. refl) (first_of (Prim.search (comparing, rules), Prim.grind (arith, Self.row.coded.inj))) };
+    ghost laws = { Prim.search (comparing, rules) };
 
     fn partial_cmp(&self, other: &Name) -> Option<Ordering> {
         Some(self.cmp(other))
@@ -72,13 +75,13 @@ impl PartialOrd for Name {
 }
 
 impl Ord for Name {
-    ghost cmp = { λ a b. name_order a b };
+    ghost cmp = { name_order };
 
-    ghost total = { first_of (Prim.search (comparing, rules), Prim.grind (arith, Self.row.coded.inj)) };
+    ghost total = { Prim.search (comparing, rules) };
 
-    ghost matches_partial_cmp = { first_of (Prim.search (comparing, rules), Prim.grind (arith, Self.row.coded.inj)) };
+    ghost matches_partial_cmp = { Prim.search (comparing, rules) };
 
-    ghost matches_eq = { first_of (Prim.search (comparing, rules), Prim.grind (arith, Self.row.coded.inj)) };
+    ghost matches_eq = { Prim.search (comparing, rules) };
 
     fn cmp(&self, other: &Name) -> Ordering {
         self.as_bytes().cmp(other.as_bytes())

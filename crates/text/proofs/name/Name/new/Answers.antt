@@ -11,7 +11,7 @@ pub invariant_of-result : goal.invariant_of-result
 invariant_of-result c =
     let told = c.in-Ok.ensures.cases in
     let copied = c.copy_from_slice.ensures.after ∙ c.as_bytes.ensures.value ∙ told.0 in
-    (ap utf8 (front _ _ _ _ copied (ap length told.0)) ∙ (utf8_decides _).1 told.1, tt)
+    record { text = ap utf8 (front _ _ _ _ copied (ap length told.0)) ∙ (utf8_decides _).1 told.1 }
 
 pub returns : goal.returns
 returns c =
