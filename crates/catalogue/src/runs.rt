@@ -20,9 +20,9 @@ pub fn ask_after<C: Catalogue>(
     kind: Kind,
     name: &[u8],
 ) -> Option<u16>
-    ensures leaves { means catalogue.new ≡ after longest (means catalogue.old) new.entry.kind new.entry.name.now new.entry.number }
-    ensures asks { result ≡ (after longest (means catalogue.old) new.entry.kind new.entry.name.now new.entry.number).map kind name.now }
-    ensures known { is_some ((means catalogue.old).map kind name.now) ≡ true → is_some result ≡ true }
+    ensures leaves { C.means catalogue.new ≡ after C.longest (C.means catalogue.old) new.entry.kind new.entry.name.now new.entry.number }
+    ensures asks { result ≡ (after C.longest (C.means catalogue.old) new.entry.kind new.entry.name.now new.entry.number).map kind name.now }
+    ensures known { is_some ((C.means catalogue.old).map kind name.now) ≡ true → is_some result ≡ true }
 {
     let _ = catalogue.register(new.kind, new.name, new.number);
     catalogue.number(kind, name)
@@ -30,9 +30,9 @@ pub fn ask_after<C: Catalogue>(
 
 // Registers each name of a list in turn, and tells how many were refused.
 pub fn register_all<C: Catalogue>(catalogue: &mut C, list: &[Registration]) -> usize
-    ensures counts { result ≡ turned_down longest (means catalogue.old) (map said list.now) }
-    ensures leaves { means catalogue.new ≡ all_after longest (means catalogue.old) (map said list.now) }
-    ensures law { Leaves longest (means catalogue.old) (map said list.now) (means catalogue.new) }
+    ensures counts { result ≡ turned_down C.longest (C.means catalogue.old) (map said list.now) }
+    ensures leaves { C.means catalogue.new ≡ all_after C.longest (C.means catalogue.old) (map said list.now) }
+    ensures law { Leaves C.longest (C.means catalogue.old) (map said list.now) (C.means catalogue.new) }
 {
     let mut refused = 0;
     for new in list {

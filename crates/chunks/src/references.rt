@@ -25,7 +25,8 @@ pub fn is_super(source: &[u8], command: Command) -> bool
     ensures { result ≡ is_super source.now command }
 {
     match command {
-        Command::Refer(kind, name, _) => is_function(kind) && name.bytes(source) == b"super",
+        Command::Refer(kind, name, _) => is_function(kind)
+            && name.bytes(source) == b"super".as_slice(),
         _ => false,
     }
 }

@@ -1,6 +1,6 @@
 -- The rows of the open containers, held in an array. Assumes nothing.
 use Rattle.std.proofs.Common.{◌≡◌, ℕ, zero, suc, ◌+◌, ◌-◌, ◌<◌, ◌≤◌, Bool, false, cond, ltb, ◌≢◌, List, ◌∷◌, length, get_or, set, Some, None, sym, refl, ap, ◌∙◌, subst, arith}
-use Rattle.std.specs.List.{AllByRecursion as All}
+use Rattle.std.specs.List.{AllByRecursion}
 use Rattle.std.proofs.ByRecursion.{All-get_or, All-set, All-weaker}
 use Rattle.std.proofs.lemmas.List.{get_or-set_same, get_or-set_other}
 use Rattle.reader.specs.declared.nest.Nest.{Nest}
@@ -54,12 +54,12 @@ counted_inner d ns body some h =
     ap (λ (rows : List Nest). record { rows = rows; body = body }) (rows_set_inner d ns (raised (get_or ns (d - 1) unused)) some h)
     ∙ sym (ap (λ (rows : List Nest). counted rows body) (rows_inner ns d some))
 
-module _ (ns : List Nest) (n : ℕ) (few : All (λ (r : Nest). r.commands ≤ n) ns) where
+module _ (ns : List Nest) (n : ℕ) (few : AllByRecursion (λ (r : Nest). r.commands ≤ n) ns) where
   -- one command more was taken, and row i counts it
-  pub counts_more : All (λ (r : Nest). r.commands ≤ n + 1) ns
+  pub counts_more : AllByRecursion (λ (r : Nest). r.commands ≤ n + 1) ns
   counts_more = All-weaker (λ (r : Nest). r.commands ≤ n) (λ r. r.commands ≤ n + 1) (λ r h. omega arith) ns few
 
-  pub counts_raised : (i : ℕ) → i < length ns → All (λ (r : Nest). r.commands ≤ n + 1) (set ns i (raised (get_or ns i unused)))
+  pub counts_raised : (i : ℕ) → i < length ns → AllByRecursion (λ (r : Nest). r.commands ≤ n + 1) (set ns i (raised (get_or ns i unused)))
   counts_raised i h = All-set (λ (r : Nest). r.commands ≤ n + 1) ns i (raised (get_or ns i unused)) (omega (arith, All-get_or (λ (r : Nest). r.commands ≤ n) ns i unused h few)) counts_more
 
 -- ---- a container opened

@@ -1,6 +1,6 @@
 -- A record is read to its end exactly where its commands are well formed. Assumes nothing.
 use Rattle.std.proofs.Common.{◌≡◌, ℕ, suc, ◌+◌, ◌<◌, Bool, true, false, cond, ◌&&◌, ◌||◌, ltb, leb, List, [], ◌∷◌, ◌++◌, map, length, Some, None, Ok, Err, Option, Result, sym, refl, ap, ◌∙◌, subst, arith}
-use Rattle.std.specs.List.{AllByRecursion as All}
+use Rattle.std.specs.List.{AllByRecursion}
 use Rattle.std.proofs.lemmas.List.{append_assoc, length-map, length_push, map_push}
 use Rattle.std.proofs.lemmas.Bool.{and_from, and_parts, cond-true, cond-false, le-leb, leb-true, lt-ltb, ltb-true}
 use Rattle.text.specs.Lines.{breaks}
@@ -161,8 +161,8 @@ depth_back rows (Some q) h = cond-true (ltb (length rows) 16) None (Some TooDeep
 -- ---- what a chain of commands says of them
 
 pub record SoundChain (source : List ℕ) (es : List Entry) (s : Standing) (cs : List Command) : Type 0 where
-  pub texts : All (λ (c : Command). Holds (TextInside source) (part_of c)) cs
-  pub spans : All (λ (c : Command). Holds (Lawful source) (span_of c)) cs
+  pub texts : AllByRecursion (λ (c : Command). Holds (TextInside source) (part_of c)) cs
+  pub spans : AllByRecursion (λ (c : Command). Holds (Lawful source) (span_of c)) cs
   pub steps : Steps (length es) (kinds s.rows) cs
   pub new : New source (commands_of es) cs
 
@@ -219,7 +219,7 @@ faultless source es s c text span may fresh deep =
     ∙ (λ i. or_else (new_back source es (opens c) fresh i) (asks_depth s.rows (opens c)))
     ∙ depth_back s.rows (opens c) deep
 
-chain_back : (source : List ℕ) (n : ℕ) (ks : List Container) (cs : List Command) → Steps n ks cs → (es : List Entry) (s : Standing) → n ≡ length es → ks ≡ kinds s.rows → All (λ (c : Command). Holds (TextInside source) (part_of c)) cs → All (λ (c : Command). Holds (Lawful source) (span_of c)) cs → New source (commands_of es) cs → (out : List Entry) × Chain source es s cs out
+chain_back : (source : List ℕ) (n : ℕ) (ks : List Container) (cs : List Command) → Steps n ks cs → (es : List Entry) (s : Standing) → n ≡ length es → ks ≡ kinds s.rows → AllByRecursion (λ (c : Command). Holds (TextInside source) (part_of c)) cs → AllByRecursion (λ (c : Command). Holds (Lawful source) (span_of c)) cs → New source (commands_of es) cs → (out : List Entry) × Chain source es s cs out
 chain_back source n ks cs (stop m) es s count is texts spans fresh =
     let nothing = no_kinds s.rows (sym is) in
     (es ++ entry s End ∷ [], last es s End refl refl nothing)
@@ -264,11 +264,11 @@ accepted source bytes out small told =
 
 pub read_well_formed : (source bytes : List ℕ) (cs : List Command) → WellFormed source cs → written cs ≡ bytes → (out : List Entry) × (read source bytes ≡ Ok out)
 read_well_formed source bytes cs h is =
-    let apart : (kind : Container) → Distinct (names source kind cs) × All (λ (n : List ℕ). All (λ (y : List ℕ). y ≡ n → ⊥) []) (names source kind cs) = λ kind. (h.distinct kind, nothing_before (names source kind cs)) in
+    let apart : (kind : Container) → Distinct (names source kind cs) × AllByRecursion (λ (n : List ℕ). AllByRecursion (λ (y : List ℕ). y ≡ n → ⊥) []) (names source kind cs) = λ kind. (h.distinct kind, nothing_before (names source kind cs)) in
     let c = chain_back source 0 [] cs (steps cs h.shape) [] start refl refl h.texts h.spans (new source [] cs apart) in
     (c.0, ap (read source) (sym is) ∙ read_again source [] start cs c.0 c.1 0)
   where
-    nothing_before : (ns : List (List ℕ)) → All (λ (n : List ℕ). All (λ (y : List ℕ). y ≡ n → ⊥) []) ns
+    nothing_before : (ns : List (List ℕ)) → AllByRecursion (λ (n : List ℕ). AllByRecursion (λ (y : List ℕ). y ≡ n → ⊥) []) ns
     nothing_before [] = tt
     nothing_before (n ∷ ns) = (tt, nothing_before ns)
 

@@ -1,6 +1,6 @@
 -- Names that are new as they come are distinct, and the other way round. Assumes nothing.
 use Rattle.std.proofs.Common.{◌≡◌, ℕ, Bool, true, false, cond, ◌&&◌, ◌||◌, List, [], ◌∷◌, ◌++◌, Some, None, Option, sym, refl, ap, ◌∙◌, subst, ⊎_elim}
-use Rattle.std.specs.List.{AllByRecursion as All}
+use Rattle.std.specs.List.{AllByRecursion}
 use Rattle.std.specs.Str.{bytes_eq}
 use Rattle.std.proofs.ByRecursion.{All-append, All-weaker}
 use Rattle.std.proofs.lemmas.Slice.Eq.{bytes_eq-Decides}
@@ -16,7 +16,7 @@ use Rattle.record.proofs.Sameness.{same_itself, same_true}
 
 -- no name of the list is this one
 abbrev pub Absent : List ℕ → List (List ℕ) → Type 0
-Absent x ys = All (λ (y : List ℕ). y ≡ x → ⊥) ys
+Absent x ys = AllByRecursion (λ (y : List ℕ). y ≡ x → ⊥) ys
 
 module _ (source : List ℕ) where
   -- is a container of that kind and name opened by one of the commands?
@@ -71,13 +71,13 @@ module _ (source : List ℕ) where
 
   -- none of the names is one of those before
   abbrev Apart : List (List ℕ) → List (List ℕ) → Type 0
-  Apart before ns = All (λ (n : List ℕ). Absent n before) ns
+  Apart before ns = AllByRecursion (λ (n : List ℕ). Absent n before) ns
 
-  all_append_left : {X : Type 0} (P : X → Type 0) (xs ys : List X) → All P (xs ++ ys) → All P xs
+  all_append_left : {X : Type 0} (P : X → Type 0) (xs ys : List X) → AllByRecursion P (xs ++ ys) → AllByRecursion P xs
   all_append_left P [] ys h = tt
   all_append_left P (x ∷ xs) ys h = (h.0, all_append_left P xs ys h.1)
 
-  all_append_right : {X : Type 0} (P : X → Type 0) (xs ys : List X) → All P (xs ++ ys) → All P ys
+  all_append_right : {X : Type 0} (P : X → Type 0) (xs ys : List X) → AllByRecursion P (xs ++ ys) → AllByRecursion P ys
   all_append_right P [] ys h = h
   all_append_right P (x ∷ xs) ys h = all_append_right P xs ys h.1
 
@@ -98,7 +98,7 @@ module _ (source : List ℕ) where
     distinct_less None d a = (d, All-weaker _ _ (λ n x. All-append _ before [] x tt) ns a, tt)
     distinct_less (Some q) d a = go (same_container kind q.0) d a
       where
-        both : (xs : List (List ℕ)) → Apart before xs → All (λ (y : List ℕ). part_bytes source q.1 ≡ y → ⊥) xs → Apart (before ++ (part_bytes source q.1 ∷ [])) xs
+        both : (xs : List (List ℕ)) → Apart before xs → AllByRecursion (λ (y : List ℕ). part_bytes source q.1 ≡ y → ⊥) xs → Apart (before ++ (part_bytes source q.1 ∷ [])) xs
         both [] b f = tt
         both (x ∷ xs) b f = (All-append _ before (part_bytes source q.1 ∷ []) b.0 (f.0, tt), both xs b.1 f.1)
 

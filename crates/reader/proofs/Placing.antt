@@ -1,6 +1,6 @@
 -- The reader's rows tell the innermost container and how many commands stand in it. Assumes nothing.
 use Rattle.std.proofs.Common.{◌≡◌, ℕ, zero, suc, ◌+◌, ◌<◌, ◌≤◌, Bool, true, cond, eqb, List, [], ◌∷◌, ◌++◌, length, sym, refl, ap, ◌∙◌, subst, arith}
-use Rattle.std.specs.List.{AllByRecursion as All}
+use Rattle.std.specs.List.{AllByRecursion}
 use Rattle.std.proofs.lemmas.List.{append_assoc, length-map, length_push}
 use Rattle.std.proofs.lemmas.Bool.{and_from, eq-eqb, eqb-true, false≢true, ne_eqb}
 use Rattle.record.specs.declared.command.Command.{Command}
@@ -35,7 +35,7 @@ Counts before r = r.commands ≡ count_in (Container r.opener) before
 -- the rows and the count of the body tell what the entries before do
 pub record Tells (before : List Entry) (s : Standing) : Type 0 where
   pub owners : (n : ℕ) → owner_at n s.rows ≡ innermost n (commands_of before)
-  pub counts : All (Counts before) s.rows
+  pub counts : AllByRecursion (Counts before) s.rows
   pub body : s.body ≡ count_in Body before
   pub order : Outward (length before) s.rows
   pub unseen : (k : ℕ) → length before ≤ k → count_in (Container k) before ≡ 0
@@ -44,7 +44,7 @@ inner_owner : (rows : List Nest) → owner_at 0 rows ≡ owner_in rows
 inner_owner [] = refl
 inner_owner (r ∷ rows) = refl
 
-inner_place : (before : List Entry) (rows : List Nest) (body : ℕ) → All (Counts before) rows → body ≡ count_in Body before → place_in rows body ≡ count_in (owner_in rows) before
+inner_place : (before : List Entry) (rows : List Nest) (body : ℕ) → AllByRecursion (Counts before) rows → body ≡ count_in Body before → place_in rows body ≡ count_in (owner_in rows) before
 inner_place before [] body h b = b
 inner_place before (r ∷ rows) body h b = h.0
 
@@ -73,7 +73,7 @@ same_other : (i j : ℕ) (n m : ℕ) → (i ≡ j → ⊥) → n ≡ m → n ≡
 same_other i j n m ne e = e ∙ omega arith ∙ sym (ap (λ (t : Bool). cond t 1 0 + m) (ne_eqb i j ne))
 
 -- the rows further out count nothing new
-outer_counts : (before : List Entry) (e : Entry) (i : ℕ) → e.owner ≡ Container i → (rows : List Nest) → Outward i rows → All (Counts before) rows → All (Counts (e ∷ before)) rows
+outer_counts : (before : List Entry) (e : Entry) (i : ℕ) → e.owner ≡ Container i → (rows : List Nest) → Outward i rows → AllByRecursion (Counts before) rows → AllByRecursion (Counts (e ∷ before)) rows
 outer_counts before e i is [] o h = tt
 outer_counts before e i is (r ∷ rows) o h = (
   same_other r.opener i r.commands (count_in (Container r.opener) before) (λ same. omega arith) h.0
@@ -88,7 +88,7 @@ outer_counts before e i is (r ∷ rows) o h = (
 -- what stands once a command is counted, before it opens or closes anything
 pub record Counted (before : List Entry) (e : Entry) (s : Standing) : Type 0 where
   pub owners : (n : ℕ) → owner_at n s.rows ≡ innermost n (commands_of before)
-  pub counts : All (Counts (e ∷ before)) s.rows
+  pub counts : AllByRecursion (Counts (e ∷ before)) s.rows
   pub body : s.body ≡ count_in Body (e ∷ before)
   pub order : Outward (length before) s.rows
   pub unseen : (k : ℕ) → length before ≤ k → count_in (Container k) (e ∷ before) ≡ 0

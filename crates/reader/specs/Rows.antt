@@ -1,6 +1,6 @@
 -- How the reader holds what stands open, and what its inner functions promise one another. Assumes nothing.
 use Rattle.std.specs.Prelude.{◌≡◌, ℕ, zero, suc, ◌+◌, ◌-◌, ◌<◌, ◌≤◌, ◌⊎◌, List, [], ◌∷◌, length, drop, Some, None, Ok, Err, Result, slice_index_or}
-use Rattle.std.specs.List.{AllByRecursion as All}
+use Rattle.std.specs.List.{AllByRecursion}
 use Rattle.text.specs.Lines.{breaks}
 use Rattle.text.specs.declared.part.Part.{Part}
 use Rattle.record.specs.declared.command.Command.{Command}
@@ -33,7 +33,7 @@ standing r = record { rows = rows_of r.depth r.nests; body = r.body }
 pub record Sound (r : Reader) : Type 0 where
   pub depth : r.depth ≤ 16
   pub size : length r.nests ≡ 16
-  pub counts : All (λ (n : Nest). n.commands ≤ r.taken) r.nests
+  pub counts : AllByRecursion (λ (n : Nest). n.commands ≤ r.taken) r.nests
   pub body : r.body ≤ r.taken
   pub taken : r.taken + length r.rest.now ≤ length r.bytes.now
   pub lines : r.lines ≡ breaks r.source.now + 1

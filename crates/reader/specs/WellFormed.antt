@@ -1,6 +1,6 @@
 -- When a list of commands makes a template, said without a reader. Assumes nothing.
 use Rattle.std.specs.Prelude.{◌≡◌, ℕ, suc, ◌+◌, ◌<◌, ◌≤◌, Bool, true, false, cond, List, [], ◌∷◌, ◌++◌, length, Some, None, IsUtf8, Option, ◌≢◌}
-use Rattle.std.specs.List.{AllByRecursion as All}
+use Rattle.std.specs.List.{AllByRecursion}
 use Rattle.text.specs.Lines.{lines}
 use Rattle.text.specs.Texts.{part_bytes}
 use Rattle.text.specs.declared.part.Part.{Part}
@@ -89,12 +89,12 @@ names source kind (c ∷ cs) = names_from source kind (opens c) (names source ki
 
 abbrev pub Distinct : List (List ℕ) → Type 0
 Distinct [] = Unit {0}
-Distinct (x ∷ xs) = All (λ y. x ≢ y) xs × Distinct xs
+Distinct (x ∷ xs) = AllByRecursion (λ y. x ≢ y) xs × Distinct xs
 
 -- ---- all of it
 
 pub record WellFormed (source : List ℕ) (cs : List Command) : Type 0 where
-  pub texts : All (λ c. Holds (TextInside source) (part_of c)) cs
-  pub spans : All (λ c. Holds (Lawful source) (span_of c)) cs
+  pub texts : AllByRecursion (λ c. Holds (TextInside source) (part_of c)) cs
+  pub spans : AllByRecursion (λ c. Holds (Lawful source) (span_of c)) cs
   pub shape : Shaped cs
   pub distinct : (kind : Container) → Distinct (names source kind cs)

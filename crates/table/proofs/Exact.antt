@@ -2,7 +2,7 @@
 use Rattle.std.proofs.Common.{◌≡◌, ℕ, zero, suc, ◌<◌, ◌≤◌, Bool, true, ◌||◌, ltb, List, [], ◌∷◌, length, get_or, take, drop, set, is_some, Some, None, Ok, Err, Option, Ordering, Less, Equal, Greater, sym, refl, ap, ◌∙◌, le_of_suc-le-suc, not-suc-le-zero}
 use Rattle.std.proofs.ByRecursion.{All-get_or}
 use Rattle.std.proofs.lemmas.Bool.{cond-false, cond-true, le-ltb, lt-ltb, or_from, or_left, or_right}
-use Rattle.std.specs.List.{insert, AllByRecursion as All}
+use Rattle.std.specs.List.{insert, AllByRecursion}
 use Rattle.std.specs.Cmp.{IsTotalOrder, alike_right}
 use Rattle.std.specs.Ordering.{is_lt}
 use Rattle.table.specs.declared.ordered.Table.{Table}
@@ -28,7 +28,7 @@ pub record Nowhere {X : Type 0} (c : X → X → Ordering) (x : X) (xs : List X)
   pub row : at_key c x xs ≡ None
   pub rows : put_in c x xs ≡ insert xs i x
 
-pub nowhere : {X : Type 0} (c : X → X → Ordering) (x : X) (xs : List X) (i : ℕ) → i ≤ length xs → All (λ y. c y x ≡ Less) (take i xs) → All (λ y. c y x ≡ Greater) (drop i xs) → Nowhere c x xs i
+pub nowhere : {X : Type 0} (c : X → X → Ordering) (x : X) (xs : List X) (i : ℕ) → i ≤ length xs → AllByRecursion (λ y. c y x ≡ Less) (take i xs) → AllByRecursion (λ y. c y x ≡ Greater) (drop i xs) → Nowhere c x xs i
 nowhere c x [] zero l h g = record { row = refl; rows = refl }
 nowhere c x [] (suc i) l h g = absurd (not-suc-le-zero l)
 nowhere c x (y ∷ ys) zero l h g = record { row = key_at c x y ys Greater g.0; rows = put_at c x y ys Greater g.0 }

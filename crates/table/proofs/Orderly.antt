@@ -2,7 +2,7 @@
 use Rattle.std.proofs.Common.{◌≡◌, ℕ, zero, suc, ◌+◌, ◌<◌, Bool, true, false, cond, List, [], ◌∷◌, ◌++◌, length, get_or, take, drop, set, Ordering, Less, Equal, Greater, sym, refl, ap, ◌∙◌, subst, true≢false, le_of_suc-le-suc, not-suc-le-zero, arith}
 use Rattle.std.proofs.ByRecursion.{All-append, All-drop, All-from_get_or, All-get_or, All-set, All-take, All-weaker}
 use Rattle.std.proofs.lemmas.List.{get_or-drop, get_or-take, length-drop, length-take, take_at}
-use Rattle.std.specs.List.{insert, remove, AllWithin, AllByRecursion as All}
+use Rattle.std.specs.List.{insert, remove, AllWithin, AllByRecursion}
 use Rattle.std.specs.Cmp.{IsTotalOrder, alike_right}
 use Rattle.std.specs.Ordering.{is_le, is_lt, ordering_reverse}
 use Rattle.std.specs.List.Sorted.{IsPartitionPoint}
@@ -23,7 +23,7 @@ module _ {X : Type 0} (t : X → X → Bool) where
   order_removed (suc i) (x ∷ xs) o =
       (All-append (λ y. t x y ≡ true) (take i xs) (drop (suc i) xs) (All-take (λ y. t x y ≡ true) i xs o.0) (All-drop (λ y. t x y ≡ true) (suc i) xs o.0), order_removed i xs o.1)
 
-  pub order_inserted : (x : X) (i : ℕ) (xs : List X) → InOrder t xs → All (λ y. t y x ≡ true) (take i xs) → All (λ y. t x y ≡ true) (drop i xs) → InOrder t (insert xs i x)
+  pub order_inserted : (x : X) (i : ℕ) (xs : List X) → InOrder t xs → AllByRecursion (λ y. t y x ≡ true) (take i xs) → AllByRecursion (λ y. t x y ≡ true) (drop i xs) → InOrder t (insert xs i x)
   order_inserted x zero xs o h k = (k, o)
   order_inserted x (suc i) [] o h k = (tt, tt)
   order_inserted x (suc i) (y ∷ ys) o h k =
@@ -60,18 +60,18 @@ less Greater h = absurd (true≢false (sym h))
 pub ascending_from_strict : {X : Type 0} (c : X → X → Ordering) (xs : List X) → Strict c xs → Ascending c xs
 ascending_from_strict c xs o = order_weaker (λ x y. is_lt (c x y)) (λ x y. is_le (c x y)) (λ x y h. le_from_lt (c x y) h) xs o
 
-all_insert_in : {X : Type 0} (c : X → X → Ordering) (P : X → Type 0) (x : X) (xs : List X) → P x → All P xs → All P (insert_in c x xs)
+all_insert_in : {X : Type 0} (c : X → X → Ordering) (P : X → Type 0) (x : X) (xs : List X) → P x → AllByRecursion P xs → AllByRecursion P (insert_in c x xs)
 all_insert_in c P x [] p h = (p, tt)
-all_insert_in c P x (y ∷ ys) p h = elim (is_le (c y x)) as (λ b. All P (cond b (y ∷ insert_in c x ys) (x ∷ y ∷ ys))) [ true ↦ (h.0, all_insert_in c P x ys p h.1) | false ↦ (p, h) ]
+all_insert_in c P x (y ∷ ys) p h = elim (is_le (c y x)) as (λ b. AllByRecursion P (cond b (y ∷ insert_in c x ys) (x ∷ y ∷ ys))) [ true ↦ (h.0, all_insert_in c P x ys p h.1) | false ↦ (p, h) ]
 
-pub every_take : {X : Type 0} (P : X → Type 0) (xs : List X) (i : ℕ) (d : X) → AllWithin P xs 0 i → All P (take i xs)
+pub every_take : {X : Type 0} (P : X → Type 0) (xs : List X) (i : ℕ) (d : X) → AllWithin P xs 0 i → AllByRecursion P (take i xs)
 every_take P xs i d h =
     All-from_get_or P (take i xs) d
     (λ k l.
     let below : k < i = omega (arith, length-take i xs) in
     subst P (sym (get_or-take i xs k d below)) (h k d (omega arith) below))
 
-pub every_drop : {X : Type 0} (P : X → Type 0) (xs : List X) (i : ℕ) (d : X) → AllWithin P xs i (length xs) → All P (drop i xs)
+pub every_drop : {X : Type 0} (P : X → Type 0) (xs : List X) (i : ℕ) (d : X) → AllWithin P xs i (length xs) → AllByRecursion P (drop i xs)
 every_drop P xs i d h =
     All-from_get_or P (drop i xs) d
     (λ k l. subst P (sym (get_or-drop i xs k d)) (h (i + k) d (omega arith) (omega (arith, length-drop i xs))))
@@ -97,7 +97,7 @@ module _ {X : Type 0} {R : X → X → Ordering} (o : IsTotalOrder R) where
       let h = lt_from_turned (R x y) (R y x) (o.antisymm x y) e in
       ((h, All-weaker (λ z. is_lt (R y z) ≡ true) (λ z. is_lt (R x z) ≡ true) (λ z k. lt_chain x y z h k) ys a.0), a)
 
-  strict_apart : (x : X) (xs : List X) → All (λ y. R y x ≡ Equal → ⊥) xs → Strict R xs → Strict R (insert_in R x xs)
+  strict_apart : (x : X) (xs : List X) → AllByRecursion (λ y. R y x ≡ Equal → ⊥) xs → Strict R xs → Strict R (insert_in R x xs)
   strict_apart x [] n a = (tt, tt)
   strict_apart x (y ∷ ys) n a = strict_step x y ys (is_le (R y x)) refl n.0 a (strict_apart x ys n.1 a.1)
 

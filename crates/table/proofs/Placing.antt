@@ -2,7 +2,7 @@
 use Rattle.std.proofs.Common.{◌≡◌, ℕ, zero, suc, ◌+◌, ◌<◌, ◌≤◌, Bool, true, false, cond, List, [], ◌∷◌, ◌++◌, length, get_or, take, drop, Ordering, Less, Equal, Greater, sym, refl, ap, ◌∙◌, true≢false}
 use Rattle.std.proofs.lemmas.List.{append_assoc, take_more, drop_more, drop_all}
 use Rattle.std.proofs.lemmas.Bool.{cond-true, cond-false}
-use Rattle.std.specs.List.{insert, AllByRecursion as All}
+use Rattle.std.specs.List.{insert, AllByRecursion}
 use Rattle.std.specs.Ordering.{is_le, is_gt}
 use Rattle.table.specs.Order.{insert_in}
 
@@ -38,7 +38,7 @@ module _ {X : Type 0} (c : X → X → Ordering) (x : X) where
     place_all l inv = ap (λ zs. take i xs ++ zs) (ap (λ zs. x ∷ zs) (drop_all i xs l) ∙ sym (ap (insert_in c x) (drop_all i xs l))) ∙ inv
 
   -- a place that parts the rows that are not greater from those that are
-  pub insert_at : (i : ℕ) (xs : List X) → All (λ y. is_le (c y x) ≡ true) (take i xs) → All (λ y. is_le (c y x) ≡ false) (drop i xs) → insert xs i x ≡ insert_in c x xs
+  pub insert_at : (i : ℕ) (xs : List X) → AllByRecursion (λ y. is_le (c y x) ≡ true) (take i xs) → AllByRecursion (λ y. is_le (c y x) ≡ false) (drop i xs) → insert xs i x ≡ insert_in c x xs
   insert_at zero [] h k = refl
   insert_at zero (y ∷ ys) h k = sym (cond-false (is_le (c y x)) (y ∷ insert_in c x ys) (x ∷ y ∷ ys) k.0)
   insert_at (suc i) [] h k = refl

@@ -5,7 +5,7 @@ use Rattle.std.proofs.lemmas.List.{get_or_read}
 use Rattle.std.proofs.lemmas.Bool.{cases_lt}
 use Rattle.std.specs.Cmp.{IsTotalOrder, alike_right}
 use Rattle.std.specs.Ordering.{is_le, is_lt, ordering_index, ordering_reverse}
-use Rattle.std.specs.List.{AllWithin, AllByRecursion as All}
+use Rattle.std.specs.List.{AllWithin, AllByRecursion}
 use Rattle.table.specs.Calls.{Finds, Found}
 use Rattle.table.specs.Order.{Ascending, InOrder, Strict, seek}
 use Rattle.table.proofs.Orderly.{ascending_from_strict}
@@ -86,11 +86,11 @@ module _ {X : Type 0} (c : X → X → Ordering) (stands : X → Ordering) (rise
     past y ys k Equal e n h = absurd (n refl)
     past y ys k Greater e n h = step y ys k Greater e
 
-    seek_nowhere : (xs : List X) (k : ℕ) → All (λ y. stands y ≡ Equal → ⊥) xs → seek stands k xs ≡ None
+    seek_nowhere : (xs : List X) (k : ℕ) → AllByRecursion (λ y. stands y ≡ Equal → ⊥) xs → seek stands k xs ≡ None
     seek_nowhere [] k n = refl
     seek_nowhere (y ∷ ys) k n = past y ys k (stands y) refl n.0 (seek_nowhere ys (k + 1) n.1)
 
-    absent : (xs : List X) → ((i : ℕ) (d : X) → i < length xs → stands (get_or xs i d) ≡ Equal → ⊥) → All (λ y. stands y ≡ Equal → ⊥) xs
+    absent : (xs : List X) → ((i : ℕ) (d : X) → i < length xs → stands (get_or xs i d) ≡ Equal → ⊥) → AllByRecursion (λ y. stands y ≡ Equal → ⊥) xs
     absent [] h = tt
     absent (y ∷ ys) h = (h 0 y (omega arith), absent ys (λ i d l. h (suc i) d (omega arith)))
 

@@ -8,7 +8,7 @@ use Rattle.std.proofs.lemmas.Bool.{cond-false, cond-true}
 use Rattle.std.specs.Cmp.{IsTotalOrder, alike_right}
 use Rattle.std.specs.Ordering.{is_eq, is_le}
 use Rattle.std.specs.List.Sorted.{IsPermutation}
-use Rattle.std.specs.List.{AllByRecursion as All}
+use Rattle.std.specs.List.{AllByRecursion}
 use Rattle.table.specs.Order.{Ascending, Sorts, insert_in, laid, sorted}
 use Rattle.table.proofs.Orderly.{ascending_insert_in}
 use Rattle.table.proofs.Totals.{le_chain}
@@ -47,7 +47,7 @@ not_le : (a b : Bool) → (a ≡ true → b ≡ true) → b ≡ false → a ≡ 
 not_le true b f h = absurd (true≢false (sym (f refl) ∙ h))
 not_le false b f h = refl
 
-kept_none : {X : Type 0} (p : X → Bool) (xs : List X) → All (λ y. p y ≡ false) xs → filter p xs ≡ []
+kept_none : {X : Type 0} (p : X → Bool) (xs : List X) → AllByRecursion (λ y. p y ≡ false) xs → filter p xs ≡ []
 kept_none p [] h = refl
 kept_none p (x ∷ xs) h = cond-false (p x) (x ∷ filter p xs) (filter p xs) h.0 ∙ kept_none p xs h.1
 
@@ -67,7 +67,7 @@ module _ {X : Type 0} {R : X → X → Ordering} (o : IsTotalOrder R) where
     with_w y = is_eq (R y w)
 
     -- x comes before greater rows: if it ties with w, none of them does
-    passes : (x : X) (ys : List X) (b : Bool) → with_w x ≡ b → All (λ y. is_le (R y x) ≡ false) ys → filter with_w (x ∷ ys) ≡ filter with_w ys ++ filter with_w (x ∷ [])
+    passes : (x : X) (ys : List X) (b : Bool) → with_w x ≡ b → AllByRecursion (λ y. is_le (R y x) ≡ false) ys → filter with_w (x ∷ ys) ≡ filter with_w ys ++ filter with_w (x ∷ [])
     passes x ys false e g =
         cond-false (with_w x) (x ∷ filter with_w ys) (filter with_w ys) e
         ∙ sym (append-nil (filter with_w ys))

@@ -1,16 +1,16 @@
 -- Rows in order, by the test and by the fact: a ghost field has the test, and the contracts of a table speak of the fact.
 use Rattle.std.proofs.Common.{◌≡◌, Bool, true, List, [], ◌∷◌, refl}
 use Rattle.std.proofs.lemmas.Bool.{and_from, and_parts}
-use Rattle.std.specs.List.{list_all, AllByRecursion as All}
+use Rattle.std.specs.List.{list_all, AllByRecursion}
 use Rattle.table.specs.Order.{InOrder, in_order}
 
-all_from_pass : {X : Type 0} (p : X → Bool) (xs : List X) → list_all p xs ≡ true → All (λ y. p y ≡ true) xs
+all_from_pass : {X : Type 0} (p : X → Bool) (xs : List X) → list_all p xs ≡ true → AllByRecursion (λ y. p y ≡ true) xs
 all_from_pass p [] h = tt
 all_from_pass p (x ∷ xs) h =
     let q = and_parts (p x) (list_all p xs) h in
     (q.0, all_from_pass p xs q.1)
 
-pass_from_all : {X : Type 0} (p : X → Bool) (xs : List X) → All (λ y. p y ≡ true) xs → list_all p xs ≡ true
+pass_from_all : {X : Type 0} (p : X → Bool) (xs : List X) → AllByRecursion (λ y. p y ≡ true) xs → list_all p xs ≡ true
 pass_from_all p [] h = refl
 pass_from_all p (x ∷ xs) h = and_from (p x) (list_all p xs) h.0 (pass_from_all p xs h.1)
 

@@ -60,5 +60,5 @@ module _ {X : Type 0} {R : X → X → Ordering} (o : IsTotalOrder R) where
     searched xs x (Err i) b h = (b, λ a. let p = h (rises xs x a) in (p, absent_parted xs x i p))
 
 -- a row's order, from the laws of `Row`
-abbrev pub total : {X : Type 0} {R : X → X → Ordering → Type 0} (c : X → X → Ordering) → ((x y : X) (r : Ordering) → R x y r → r ≡ c x y) → ((x y : X) → c x y ≡ ordering_reverse (c y x)) → ((x y z : X) → c x y ≡ Less → c y z ≡ Less → c x z ≡ Less) → ((x y z : X) → c x y ≡ Equal → c x z ≡ c y z) → IsTotalOrder R
-total c says flip trans alike = record { cmp = c; says = says; flip = flip; trans = trans; alike = alike }
+abbrev pub total : {X : Type 0} (c : X → X → Ordering) → ((x y : X) → c x y ≡ ordering_reverse (c y x)) → ((x y z : X) → c x y ≡ Less → c y z ≡ Less → c x z ≡ Less) → ((x y z : X) → c x y ≡ Equal → c x z ≡ c y z) → IsTotalOrder c
+total c flip trans alike = record { antisymm = flip; trans = trans; congr = alike }

@@ -9,12 +9,12 @@ use Rattle.std.specs.declared.cmp.Ordering.TheVariants.{Less, Equal, Greater}
 use Rattle.std.specs.declared.cmp.Ordering.{Ordering}
 use Rattle.std.specs.Ordering.{is_eq, is_le, is_lt}
 use Rattle.std.specs.List.Sorted.{IsPermutation}
-use Rattle.std.specs.List.{list_all, AllByRecursion as All}
+use Rattle.std.specs.List.{list_all, AllByRecursion}
 
 -- each row passes the test with every later one
 abbrev pub InOrder : {X : Type 0} → (X → X → Bool) → List X → Type 0
 InOrder t [] = Unit {0}
-InOrder t (x ∷ xs) = All (λ y. t x y ≡ true) xs × InOrder t xs
+InOrder t (x ∷ xs) = AllByRecursion (λ y. t x y ≡ true) xs × InOrder t xs
 
 -- the same as a test, for a ghost field of a struct that holds a table
 abbrev pub in_order : {X : Type 0} → (X → X → Bool) → List X → Bool

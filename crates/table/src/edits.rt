@@ -12,7 +12,8 @@ use std::mem::replace;
 impl<R> Table<R> {
     // Lets a row in at a place, of which there is room for one more.
     pub(crate) fn put(&mut self, place: usize, row: R)
-        requires { (place ≤ vec_len self.old.rows) × (vec_len self.old.rows < self.old.limit) }
+        requires within { place ≤ vec_len self.old.rows }
+        requires room { vec_len self.old.rows < self.old.limit }
         ensures { Becomes self.old (insert (held self.old) place row) self.new }
     {
         match self.rows.insert(place, row) {
@@ -55,7 +56,7 @@ impl<R: Row> Table<R> {
     // The place after the rows that are not greater, up to the first that is.
     pub(crate) fn place(&self, row: &R) -> usize
         ensures within { result ≤ vec_len self.now.rows }
-        ensures there { insert (held self.now) result row.now ≡ insert_in compare row.now (held self.now) }
+        ensures there { insert (held self.now) result row.now ≡ insert_in R.compare row.now (held self.now) }
     {
         for (i, other) in self.rows.iter().enumerate() {
             if after(other, row) {
@@ -67,10 +68,10 @@ impl<R: Row> Table<R> {
 
     // Lets a row in among the others; a full table gives it back, and nothing is altered.
     pub fn insert(&mut self, row: R) -> Result<(), R>
-        ensures does { Inserts compare self.old row result self.new }
+        ensures does { Inserts R.compare self.old row result self.new }
         ensures same { is_ok result ≡ true → IsPermutation (held self.old ++ row ∷ []) (held self.new) }
-        ensures ascending { Ascending compare (held self.old) → Ascending compare (held self.new) }
-        ensures strict { Strict compare (held self.old) → Absent key (held self.old) row → Strict compare (held self.new) }
+        ensures ascending { Ascending R.compare (held self.old) → Ascending R.compare (held self.new) }
+        ensures strict { Strict R.compare (held self.old) → Absent R.key (held self.old) row → Strict R.compare (held self.new) }
     {
         if self.rows.len() >= self.limit {
             return Err(row);
@@ -82,10 +83,10 @@ impl<R: Row> Table<R> {
 
     // Puts a row in the place of one with its key, which is given back, or lets it in where there is none.
     pub fn replace(&mut self, row: R) -> Result<Option<R>, R>
-        ensures does { Puts compare key self.old row result self.new }
-        ensures exact { Strict compare (held self.old) → PutsExactly compare self.old row result self.new }
-        ensures ascending { Ascending compare (held self.old) → Ascending compare (held self.new) }
-        ensures strict { Strict compare (held self.old) → Strict compare (held self.new) }
+        ensures does { Puts R.compare R.key self.old row result self.new }
+        ensures exact { Strict R.compare (held self.old) → PutsExactly R.compare self.old row result self.new }
+        ensures ascending { Ascending R.compare (held self.old) → Ascending R.compare (held self.new) }
+        ensures strict { Strict R.compare (held self.old) → Strict R.compare (held self.new) }
     {
         match self.locate(&row) {
             Ok(i) => Ok(Some(replace(&mut self.rows[i], row))),

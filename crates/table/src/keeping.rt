@@ -12,9 +12,9 @@ impl<R: Row> Table<R> {
     //
     // So after any rows, one by one, the table holds the first of them all.
     pub fn keep_first(&mut self, row: R) -> Option<R>
-        ensures does { Keeps compare self.old row result self.new }
-        ensures first { (all : List R) → Kept compare all self.old → Kept compare (all ++ row ∷ []) self.new }
-        ensures ascending { Ascending compare (held self.old) → Ascending compare (held self.new) }
+        ensures does { Keeps R.compare self.old row result self.new }
+        ensures first { (all : List R) → Kept R.compare all self.old → Kept R.compare (all ++ row ∷ []) self.new }
+        ensures ascending { Ascending R.compare (held self.old) → Ascending R.compare (held self.new) }
     {
         self.came = self.came.saturating_add(1);
         let place = self.place(&row);
@@ -35,7 +35,7 @@ impl<R: Row> Table<R> {
     where
         R: Copy,
         ensures limit { self.new.limit ≡ self.old.limit }
-        ensures first { (all : List R) → Kept compare all self.old → Kept compare (all ++ rows.now) self.new }
+        ensures first { (all : List R) → Kept R.compare all self.old → Kept R.compare (all ++ rows.now) self.new }
     {
         for row in rows {
             let _ = self.keep_first(*row);
@@ -46,8 +46,8 @@ impl<R: Row> Table<R> {
 // A table of the first `limit` of some rows, in order, that counts them all.
 pub fn firsts<R: Row + Copy>(heap: Global, limit: usize, rows: &[R]) -> Result<Table<R>, AllocError>
     ensures limit { IfOk result (λ t. t.limit ≡ limit) }
-    ensures first { IfOk result (λ t. Kept compare rows.now t) }
-    ensures sorts { OnOk result (Sorts compare rows.now (sorted compare rows.now)) }
+    ensures first { IfOk result (λ t. Kept R.compare rows.now t) }
+    ensures sorts { OnOk result (Sorts R.compare rows.now (sorted R.compare rows.now)) }
     ensures counted { IfOk result (λ t. t.came ≡ length rows.now) }
 {
     let mut table = Table::with_rows(heap, limit)?;

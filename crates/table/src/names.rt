@@ -1,9 +1,7 @@
 ghost use Rattle.std.specs.Prelude.{ℕ, List};
 ghost use Rattle.text.specs.Names.{name_bytes, name_order};
-ghost use Rattle.std.specs.Cmp.{nat_cmp_total};
-ghost use Rattle.std.specs.Cmp.Lexicographic.{lexical};
+ghost use Rattle.std.specs.Cmp.Lexicographic.{on_texts};
 ghost use Rattle.text.proofs.Ordered.{names_in_order};
-ghost use Rattle.std.proofs.Common.{rules};
 
 use crate::rows::Row;
 use text::name::Name;
@@ -16,15 +14,15 @@ impl Row for Name {
 
     ghost key = { name_bytes };
 
-    ghost says = { Prim.search rules };
+    ghost says = { λ x y r h. h };
 
-    ghost flip = { λ x y. (lexical nat_cmp_total).flip (name_bytes x) (name_bytes y) };
+    ghost flip = { (on_texts name_bytes).antisymm };
 
-    ghost trans = { λ x y z p q. (lexical nat_cmp_total).trans (name_bytes x) (name_bytes y) (name_bytes z) p q };
+    ghost trans = { (on_texts name_bytes).trans };
 
-    ghost alike = { λ x y z p. (lexical nat_cmp_total).alike (name_bytes x) (name_bytes y) (name_bytes z) p };
+    ghost alike = { (on_texts name_bytes).congr };
 
-    ghost ties = { λ x y p. names_in_order.ties x y p };
+    ghost ties = { names_in_order.ties };
 
-    ghost keyed = { λ x y p. names_in_order.itself x y p };
+    ghost keyed = { names_in_order.itself };
 }

@@ -64,15 +64,15 @@ impl<R> Table<R> {
 impl<R: Row> Table<R> {
     // The place of a row with the key of `row`, or else the place where `row` belongs.
     pub(crate) fn locate(&self, row: &R) -> Result<usize, usize>
-        ensures { Searched compare key (held self.now) row.now result }
+        ensures { Searched R.compare R.key (held self.now) row.now result }
     {
         self.rows.binary_search(row)
     }
 
     // The place of a row with the key of `row`.
     pub fn search(&self, row: &R) -> Option<usize>
-        ensures finds { Found compare key (held self.now) row.now result }
-        ensures exact { Strict compare (held self.now) → result ≡ seek (λ y. compare y row.now) 0 (held self.now) }
+        ensures finds { Found R.compare R.key (held self.now) row.now result }
+        ensures exact { Strict R.compare (held self.now) → result ≡ seek (λ y. R.compare y row.now) 0 (held self.now) }
     {
         match self.locate(row) {
             Ok(place) => Some(place),

@@ -30,7 +30,7 @@ pub trait Row: Ord {
 
 // Whether `a` stands after `b`.
 pub(crate) fn after<R: Row>(a: &R, b: &R) -> bool
-    ensures { result ≡ is_gt (compare a.now b.now) }
+    ensures { result ≡ is_gt (R.compare a.now b.now) }
 {
     a.cmp(b).is_gt()
 }

@@ -1,10 +1,9 @@
-ghost use Rattle.std.specs.Prelude.{◌≡◌, ℕ, Some, nat_eq, refl};
-ghost use Rattle.table_cases.specs.Weighing.{by_scale, by_weight, weighs};
-ghost use Rattle.std.specs.Ordering.{on, eq_of_both};
+ghost use Rattle.std.specs.Prelude.{ℕ, nat_eq};
 ghost use Rattle.std.specs.Cmp.Rules.{comparing};
+ghost use Rattle.std.specs.Ordering.{as_partial_cmp, eq_of_both, on};
 ghost use Rattle.std.proofs.Common.{rules};
-ghost use Rattle.std.specs.Cmp as Keys;
-ghost use Rattle.std.specs.Cmp.{partial_order_from_agreeing_total};
+ghost use Rattle.table_cases.specs.Weighing.{by_scale, by_weight, weighs};
+ghost use Rattle.table_cases.specs.Weights.{weights_keyed, weights_tie, weights_total};
 
 use crate::weighed::{Scale, Weighed};
 use std::cmp::Ordering;
@@ -13,7 +12,7 @@ use table::{Probe, Row};
 impl PartialEq for Weighed {
     ghost eq = { eq_of_both (on (λ v. v.weight) nat_eq) (on (λ v. v.tag) nat_eq) };
 
-    ghost laws = { Keys.partial_equiv_from_equiv (Prim.search (comparing, rules)) };
+    ghost laws = { Prim.search (comparing, rules) };
 
     fn eq(&self, other: &Weighed) -> bool {
         self.weight == other.weight && self.tag == other.tag
@@ -25,9 +24,9 @@ impl Eq for Weighed {
 }
 
 impl PartialOrd for Weighed {
-    ghost partial_cmp = { λ a b. Some (by_weight a b) };
+    ghost partial_cmp = { as_partial_cmp by_weight };
 
-    ghost laws = { partial_order_from_agreeing_total (λ a b. by_weight a b) (Prim.search (comparing, rules)) (λ _ _. refl) (Prim.search (comparing, rules)) };
+    ghost laws = { Prim.search (comparing, rules) };
 
     fn partial_cmp(&self, other: &Weighed) -> Option<Ordering> {
         Some(self.cmp(other))
@@ -35,7 +34,7 @@ impl PartialOrd for Weighed {
 }
 
 impl Ord for Weighed {
-    ghost cmp = { λ a b. by_weight a b };
+    ghost cmp = { by_weight };
 
     ghost total = { Prim.search (comparing, rules) };
 
@@ -58,17 +57,17 @@ impl Row for Weighed {
 
     ghost key = { weighs };
 
-    ghost says = { Prim.search rules };
+    ghost says = { λ x y r h. h };
 
-    ghost flip = { Prim.search rules };
+    ghost flip = { weights_total.antisymm };
 
-    ghost trans = { Prim.search rules };
+    ghost trans = { weights_total.trans };
 
-    ghost alike = { Prim.search rules };
+    ghost alike = { weights_total.congr };
 
-    ghost ties = { Prim.search rules };
+    ghost ties = { weights_tie };
 
-    ghost keyed = { Prim.search rules };
+    ghost keyed = { weights_keyed };
 }
 
 impl Probe<Weighed> for Scale {

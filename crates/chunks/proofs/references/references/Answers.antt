@@ -4,14 +4,14 @@ use Rattle.reader.specs.Places.{commands_of}
 use Rattle.chunks.specs.References.{call_of, gathered}
 use Rattle.chunks.proofs.Gathering.{gathers, passes}
 use Rattle.chunks.proofs.references.references.Goals as goal
-use Rattle.chunks.proofs.references.references.Goals.{in-Some+in_ok-push, in-None}
+use Rattle.chunks.proofs.references.references.Goals.{in-Some+in_ok-push-in-Some, in-None}
 
 pub loop-entry-preserved : goal.loop-entry-preserved
 loop-entry-preserved c =
     let xs = c.entries-entries.result.now in
     let out = vec_items c.loop-entry.calls in
     elim c.match-call.branch [
-      | in-Some+in_ok-push w ↦ gathers (call_of c.as_bytes-source.result.now) xs c.loop-entry.entry-index _ c.loop-entry-test.true out c.loop-entry.invariant _ _ (sym w.in-Some.ensures) (ap vec_items w.calls-is ∙ w.in_ok-push.ensures.items)
+      | in-Some+in_ok-push-in-Some w ↦ gathers (call_of c.as_bytes-source.result.now) xs c.loop-entry.entry-index _ c.loop-entry-test.true out c.loop-entry.invariant _ _ (sym w.in-Some.ensures) (ap vec_items w.calls-is ∙ w.in_ok-push-in-Some.ensures.items)
       | in-None w ↦ ap vec_items w.calls-is ∙ passes (call_of c.as_bytes-source.result.now) xs c.loop-entry.entry-index _ c.loop-entry-test.true out c.loop-entry.invariant (sym w.in-None.ensures)
     ]
 

@@ -51,7 +51,8 @@ loop-entries-preserved c =
     underway_more c.args.source.now c.args.«record».now (vec_items c.loop-entries.entries) c.loop-entries.reader c.next.new.self c.loop-entries.invariant c.in_ok-entry.entry (vec_items c.push.new.self) (taken (goal.at.loop-entries-preserved c).In_ok-entry) (sym c.is_end.ensures ∙ c.if-is_end.false) c.in_ok-push.ensures.items
 
 pub invariant_of-result : goal.invariant_of-result
-invariant_of-result c = ((accepted _ _ _ (λ i. (c.type_inv.«record» i).fits) (whole (goal.at.invariant_of-result c).In_ok-finish (taken (goal.at.invariant_of-result c).In_ok-entry))).innermost, tt)
+invariant_of-result c =
+    record { innermost = (accepted _ _ _ (λ i. (c.type_inv.«record» i).fits) (whole (goal.at.invariant_of-result c).In_ok-finish (taken (goal.at.invariant_of-result c).In_ok-entry))).innermost }
 
 pub returns-then-is_end : goal.returns-then-is_end
 returns-then-is_end c =

@@ -6,7 +6,7 @@ use Rattle.table.proofs.keeping.firsts.Goals as goal
 
 pub returns : goal.returns
 returns g c =
-    let met = g.met.R.Row in
+    let row = g.R.Row in
     let fresh = c.in_ok-table.ensures in
     let kept = c.keep_all.ensures.first [] (kept_none g.R.Row.compare c.args.limit c.in_ok-table.table fresh) in
-    record { limit = c.keep_all.ensures.limit ∙ fresh.limit; first = kept; sorts = sorted_sorts (total g.R.Row.compare met.says met.flip met.trans met.alike) c.args.rows.now; counted = omega (arith, kept.came) }
+    record { limit = c.keep_all.ensures.limit ∙ fresh.limit; first = kept; sorts = sorted_sorts (total g.R.Row.compare row.flip row.trans row.alike) c.args.rows.now; counted = omega (arith, kept.came) }

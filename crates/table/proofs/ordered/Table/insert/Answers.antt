@@ -9,8 +9,8 @@ use Rattle.table.proofs.ordered.Table.insert.Goals as goal
 
 pub returns : goal.returns
 returns g c =
-    let met = g.met.R.Row in
-    let o = total g.R.Row.compare met.says met.flip met.trans met.alike in
+    let row = g.R.Row in
+    let o = total g.R.Row.compare row.flip row.trans row.alike in
     let x = c.args.row in
     let xs = held c.args.self.now in
     let rows = c.put.ensures.rows ∙ c.place-place.ensures.there in
@@ -18,5 +18,5 @@ returns g c =
       does = (search rules, record { rows = rows; limit = c.put.ensures.limit; came = c.put.ensures.came });
       same = λ _. subst (IsPermutation (xs ++ x ∷ [])) (sym rows) (insert_same g.R.Row.compare x xs);
       ascending = λ a. subst (Ascending g.R.Row.compare) (sym rows) (ascending_insert_in o x xs a);
-      strict = λ a n. subst (Strict g.R.Row.compare) (sym rows) (strict_insert_in o g.R.Row.key met.ties x xs a n);
+      strict = λ a n. subst (Strict g.R.Row.compare) (sym rows) (strict_insert_in o g.R.Row.key row.ties x xs a n);
     }

@@ -12,9 +12,9 @@ use Rattle.table.proofs.ordered.Table.keep_first.Goals as goal
 -- there is room
 pub returns-then-len-self : goal.returns-then-len-self
 returns-then-len-self g c =
-    let met = g.met.R.Row in
+    let row = g.R.Row in
     let cmp = g.R.Row.compare in
-    let o = total cmp met.says met.flip met.trans met.alike in
+    let o = total cmp row.flip row.trans row.alike in
     let x = c.args.row in
     let t = c.args.self.now in
     let xs = held t in
@@ -32,7 +32,7 @@ returns-then-len-self g c =
 -- the row itself is past the limit
 pub returns-then-place-self : goal.returns-then-place-self
 returns-then-place-self g c =
-    let met = g.met.R.Row in
+    let row = g.R.Row in
     let cmp = g.R.Row.compare in
     let x = c.args.row in
     let t = c.args.self.now in
@@ -50,9 +50,9 @@ returns-then-place-self g c =
 -- the last row makes room
 pub returns : goal.returns
 returns g c =
-    let met = g.met.R.Row in
+    let row = g.R.Row in
     let cmp = g.R.Row.compare in
-    let o = total cmp met.says met.flip met.trans met.alike in
+    let o = total cmp row.flip row.trans row.alike in
     let x = c.args.row in
     let t = c.args.self.now in
     let xs = held t in

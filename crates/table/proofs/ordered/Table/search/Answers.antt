@@ -7,14 +7,14 @@ use Rattle.table.proofs.ordered.Table.search.Goals as goal
 
 pub returns-in-Ok : goal.returns-in-Ok
 returns-in-Ok g c =
-    let met = g.met.R.Row in
-    let o = total g.R.Row.compare met.says met.flip met.trans met.alike in
+    let row = g.R.Row in
+    let o = total g.R.Row.compare row.flip row.trans row.alike in
     let h = c.in-Ok.ensures in
-    record { finds = h; exact = λ s. own_exact o c.args.row.now g.R.Row.key met.ties met.keyed (held c.args.self.now) (Some c.in-Ok.place) h s }
+    record { finds = h; exact = λ s. own_exact o c.args.row.now g.R.Row.key row.ties row.keyed (held c.args.self.now) (Some c.in-Ok.place) h s }
 
 pub returns-in-Err : goal.returns-in-Err
 returns-in-Err g c =
-    let met = g.met.R.Row in
-    let o = total g.R.Row.compare met.says met.flip met.trans met.alike in
+    let row = g.R.Row in
+    let o = total g.R.Row.compare row.flip row.trans row.alike in
     let h = λ (a : Ascending g.R.Row.compare (held c.args.self.now)). (c.in-Err.ensures.1 a).1 in
-    record { finds = h; exact = λ s. own_exact o c.args.row.now g.R.Row.key met.ties met.keyed (held c.args.self.now) None h s }
+    record { finds = h; exact = λ s. own_exact o c.args.row.now g.R.Row.key row.ties row.keyed (held c.args.self.now) None h s }
