@@ -1,7 +1,7 @@
 -- Rows in order. `c` is the order: what `cmp` answers of two rows.
 --     Ascending c xs       no row stands before a lesser one; rows that tie may stand together
 --     Strict c xs          each row is less than those after it, so that none tie
---     insert-in c x xs     x let in among xs: after the rows that are not greater, before the rest
+--     insert_in c x xs     x let in among xs: after the rows that are not greater, before the rest
 --     laid c xs new        the rows of new let in among xs, one after another
 --     sorted c xs          the whole list in order; rows that tie keep the order in which they came (`Sorts` says so)
 use Rattle.std.specs.Prelude.{◌≡◌, ℕ, ◌+◌, ◌<◌, Bool, true, cond, ◌&&◌, List, [], ◌∷◌, length, Some, None, filter, Option, ◌≢◌, slice_index_or}

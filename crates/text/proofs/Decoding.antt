@@ -1,4 +1,4 @@
--- The test `utf8` and the library's `Utf8` say the same. Assumes nothing.
+-- The test `utf8` and the library's `IsUtf8` say the same. Assumes nothing.
 use Rattle.std.proofs.Common.{◌≡◌, ℕ, false, List, IsUtf8, Decides, ⊎_elim}
 use lib.Utf8.{scalars, encodes}
 use Rattle.std.specs.Str.{chars, bytes_eq}

@@ -4,7 +4,7 @@ use Rattle.std.specs.Cmp.{means, below_irrefl, below_chain, ranks}
 use Rattle.std.specs.Cmp.Lexicographic.{on_texts}
 use Rattle.std.specs.Ordering.{ordering_then, nat_cmp}
 use Rattle.std.proofs.lemmas.Bool.Decides.{nat_tests}
-use Rattle.text.specs.Names.{byte_order, name_bytes, name_order, NamesInOrder}
+use Rattle.text.specs.Names.{byte_order, name_bytes, NamesInOrder}
 
 both_equal : (a b : Ordering) → ordering_then a b ≡ Equal → (a ≡ Equal) × (b ≡ Equal)
 both_equal Less b e = absurd (let z : ◌≡◌ {A = ℕ} 0 1 = cc in omega arith)

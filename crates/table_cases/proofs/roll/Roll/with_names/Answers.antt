@@ -5,4 +5,4 @@ use Rattle.text.specs.Names.{name_order}
 use Rattle.table_cases.proofs.roll.Roll.with_names.Goals as goal
 
 pub invariant_of-result : goal.invariant_of-result
-invariant_of-result c = (ap (in_order (λ a b. is_lt (name_order a b))) c.in_ok-names.ensures.rows, tt)
+invariant_of-result c = record { strict = ap (in_order (λ a b. is_lt (name_order a b))) c.in_ok-names.ensures.rows }

@@ -1,4 +1,4 @@
-use Rattle.std.proofs.Common.{◌≡◌, true, length, sym, refl, ap, ◌∙◌, arith}
+use Rattle.std.proofs.Common.{length, ap, ◌∙◌, arith}
 use Rattle.text.specs.Utf8.{utf8}
 use Rattle.text.proofs.Cut.{front}
 use Rattle.text.proofs.Decoding.{utf8_decides, not_utf8}

@@ -1,6 +1,5 @@
-use Rattle.std.proofs.Common.{◌+◌, length, IsUtf8, sym, ap, ◌∙◌, subst}
+use Rattle.std.proofs.Common.{IsUtf8, sym, ◌∙◌, subst}
 use Rattle.std.proofs.lemmas.Bool.{cond-true, cond-false, le-leb}
-use Rattle.text.specs.Texts.{part_bytes}
 use Rattle.text.proofs.Decoding.{utf8_decides, not_utf8}
 use Rattle.text.proofs.part.Part.text.Goals as goal
 
