@@ -1,5 +1,5 @@
 -- One kind and one name.
-use Rattle.std.proofs.Common.{◌≡◌, ℕ, Bool, true, false, ◌&&◌, List, sym, refl, ap, ◌∙◌, subst, true≢false}
+use Rattle.std.proofs.Common.{◌≡◌, ℕ, Bool, true, ◌&&◌, List, sym, refl, ap, ◌∙◌, subst, true≢false}
 use Rattle.catalogue.specs.declared.kinds.Kind.{Kind}
 use Rattle.catalogue.specs.declared.kinds.Kind.TheVariants.{Filter, Test, Function}
 use Rattle.catalogue.specs.Meaning.{same_kind, same}

@@ -11,7 +11,7 @@ use Rattle.record.specs.declared.letter.Letter.TheVariants.{Extends as X, Block 
 use Rattle.record.specs.Kinds.{letter_of}
 use Rattle.record.specs.Letters.{width}
 use Rattle.reader.specs.Operands.{command_of, name_operand, number, span_operand, text_operand}
-use Rattle.reader.specs.Written.{two, written, written_name, written_operands, written_span, written_text}
+use Rattle.reader.specs.Written.{two, written_name, written_operands, written_span, written_text}
 
 -- ---- written, then read
 

@@ -1,4 +1,4 @@
-use Rattle.std.proofs.Common.{◌≡◌, sym, refl, ap, ◌∙◌, arith}
+use Rattle.std.proofs.Common.{sym, ap, ◌∙◌, arith}
 use Rattle.std.proofs.lemmas.List.{drop_more, nil_from_length}
 use Rattle.reader.specs.Places.{commands_of}
 use Rattle.chunks.specs.References.{parent_of}

@@ -1,8 +1,8 @@
-use Rattle.std.proofs.Common.{◌≡◌, ℕ, ◌≤◌, false, List, length, sym, ap, ◌∙◌, arith}
+use Rattle.std.proofs.Common.{ℕ, ◌≤◌, List, sym, ap, ◌∙◌, arith}
 use Rattle.std.proofs.ByRecursion.{All-set}
 use Rattle.std.proofs.lemmas.List.{length-set}
 use Rattle.reader.specs.declared.nest.Nest.{Nest}
-use Rattle.reader.specs.Questions.{Standing, declared}
+use Rattle.reader.specs.Questions.{declared}
 use Rattle.reader.specs.Reading.{counted, pushed}
 use Rattle.reader.specs.Rows.{rows_of}
 use Rattle.reader.proofs.Held.{length_rows, may_enter, rows_push}
