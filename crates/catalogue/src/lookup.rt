@@ -10,7 +10,7 @@ pub trait Catalogue {
     // The longest name that the catalogue takes, in bytes.
     const LONGEST: usize;
 
-    // The same number for contracts, where an associated constant has no name.
+    // The same number, as contracts name it.
     ghost longest: { ℕ };
 
     ghost means: { Self → Meaning };

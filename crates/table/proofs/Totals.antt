@@ -59,6 +59,6 @@ module _ {X : Type 0} {R : X → X → Ordering} (o : IsTotalOrder R) where
     searched xs x (Ok i) b h = (b, λ d. ties (get_or xs i d) x (h d))
     searched xs x (Err i) b h = (b, λ a. let p = h (rises xs x a) in (p, absent_parted xs x i p))
 
--- a row's order, from the laws of `Row`
+-- a row's order is total, from what each `impl` of `Row` proves
 abbrev pub total : {X : Type 0} (c : X → X → Ordering) → ((x y : X) → c x y ≡ ordering_reverse (c y x)) → ((x y z : X) → c x y ≡ Less → c y z ≡ Less → c x z ≡ Less) → ((x y z : X) → c x y ≡ Equal → c x z ≡ c y z) → IsTotalOrder c
 total c flip trans alike = record { antisymm = flip; trans = trans; congr = alike }
