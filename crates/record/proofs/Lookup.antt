@@ -1,8 +1,7 @@
 -- The table of the commands, row by row. Assumes nothing.
-use Rattle.std.proofs.Common.{◌≡◌, ℕ, ◌+◌, ◌<◌, ◌≤◌, Bool, true, false, cond, eqb, List, [], ◌∷◌, map, length, get_or, drop, Some, None, Option, sym, refl, ap, ◌∙◌, arith}
+use Rattle.std.proofs.Common.{◌≡◌, ℕ, Bool, true, false, cond, eqb, ◌==◌, find, List, [], ◌∷◌, map, Some, Option, sym, refl, ap, ◌∙◌, arith}
 use Rattle.std.specs.Option.{option_map}
-use Rattle.std.proofs.lemmas.List.{at_drop_more, at_drop_all}
-use Rattle.std.proofs.lemmas.Bool.{cond-true, cond-false, eq-eqb, eqb-true, ne_eqb}
+use Rattle.std.proofs.lemmas.Bool.{eqb-true}
 use Rattle.record.specs.declared.letter.Layout.{Layout}
 use Rattle.record.specs.declared.letter.Letter.{Letter}
 use Rattle.record.specs.declared.letter.Letter.TheVariants.{Extends, Block, PlainBlock, Component, Refer, Variable, Text, Close, End}
@@ -12,10 +11,6 @@ use Rattle.record.specs.Letters.{layout_at, layout_of, letter_byte, letter_at, l
 -- the table as the code has it: each row is the layout of its letter
 abbrev pub rows : List Layout
 rows = map layout_of letters
-
-abbrev pub row_in : ℕ → List Layout → Option Layout
-row_in b [] = None
-row_in b (r ∷ rs) = cond (eqb r.byte b) (Some r) (row_in b rs)
 
 pub byte_of_layout : (l : Letter) → (layout_of l).byte ≡ letter_byte l
 byte_of_layout Extends = refl
@@ -32,22 +27,15 @@ chosen : (t : Bool) (l : Letter) (o : Option Letter) (p : Option Layout) → p �
 chosen true l o p e = refl
 chosen false l o p e = e
 
-row_is_layout : (b : ℕ) (ls : List Letter) → row_in b (map layout_of ls) ≡ option_map layout_of (letter_in b ls)
+-- a search among the rows finds the layout of the letter that a search among the letters finds
+row_is_layout : (b : ℕ) (ls : List Letter) → find (λ row. row.byte == b) (map layout_of ls) ≡ option_map layout_of (letter_in b ls)
 row_is_layout b [] = refl
 row_is_layout b (l ∷ ls) =
-    ap (λ (k : ℕ). cond (eqb k b) (Some (layout_of l)) (row_in b (map layout_of ls))) (byte_of_layout l)
-    ∙ chosen (eqb (letter_byte l) b) l (letter_in b ls) (row_in b (map layout_of ls)) (row_is_layout b ls)
+    ap (λ (k : ℕ). cond (k == b) (Some (layout_of l)) (find (λ row. row.byte == b) (map layout_of ls))) (byte_of_layout l)
+    ∙ chosen (letter_byte l == b) l (letter_in b ls) (find (λ row. row.byte == b) (map layout_of ls)) (row_is_layout b ls)
 
--- one turn of a search through the table
-module _ (b i : ℕ) (d : Layout) where
-  pub hit : i < length rows → (get_or rows i d).byte ≡ b → row_in b (drop i rows) ≡ row_in b rows → Some (get_or rows i d) ≡ layout_at b
-  hit h e inv = sym (at_drop_more (row_in b) rows i d h ∙ cond-true _ _ _ (eq-eqb _ b e)) ∙ inv ∙ row_is_layout b letters
-
-  pub miss : i < length rows → ((get_or rows i d).byte ≡ b → ⊥) → row_in b (drop i rows) ≡ row_in b rows → row_in b (drop (i + 1) rows) ≡ row_in b rows
-  miss h e inv = sym (at_drop_more (row_in b) rows i d h ∙ cond-false _ _ _ (ne_eqb _ b e)) ∙ inv
-
-pub none : (b i : ℕ) → length rows ≤ i → row_in b (drop i rows) ≡ row_in b rows → None ≡ layout_at b
-none b i h inv = sym (at_drop_all (row_in b) rows i h) ∙ inv ∙ row_is_layout b letters
+pub found_row : (b : ℕ) → find (λ row. row.byte == b) rows ≡ layout_at b
+found_row b = row_is_layout b letters
 
 -- ---- the rule of the table
 

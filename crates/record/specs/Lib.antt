@@ -1,4 +1,5 @@
 pub mod Kinds
 pub mod Letters
 pub mod Openers
+pub mod Printed
 pub mod Refusals

@@ -30,7 +30,10 @@ pub enum Command {
 }
 
 // The container that a command stands directly in, by the place of its opener in the list of commands.
-#[derive(Clone, Copy)]
+//
+// An enum of its own, and no `Option<usize>`: `Owner::Body` says which container is meant where none
+// is open, and `None` would not.
+#[derive(Clone, Copy, PartialEq, Eq)]
 pub enum Owner {
     Body,
     Container(usize),

@@ -9,7 +9,8 @@ use std::alloc::{AllocError, AllocFailed};
 use text::fault::TextFault;
 
 impl Reason {
-    // 9 to 16, in the order in which the questions are asked.
+    // 9 to 16, in the order in which the questions are asked. Programs print these numbers, so each
+    // is attached to its case here, and nowhere else.
     pub fn number(self) -> u8
         ensures { result ≡ number_of self }
     {

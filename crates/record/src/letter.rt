@@ -1,7 +1,7 @@
 // What the thirteen command bytes stand for.
 
 // What a template refers to by name.
-#[derive(Clone, Copy)]
+#[derive(Clone, Copy, PartialEq, Eq)]
 pub enum Reference {
     Filter,
     Test,

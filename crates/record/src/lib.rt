@@ -5,5 +5,6 @@ pub mod command;
 pub mod fault;
 pub mod faults;
 pub mod letter;
+pub mod printed;
 pub mod roles;
 pub mod table;

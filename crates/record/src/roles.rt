@@ -58,9 +58,6 @@ impl Command {
     pub fn is_end(self) -> bool
         ensures { result ≡ is_end self }
     {
-        match self {
-            Command::End => true,
-            _ => false,
-        }
+        matches!(self, Command::End)
     }
 }

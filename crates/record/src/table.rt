@@ -1,9 +1,10 @@
 // The table of the thirteen commands.
-ghost use Rattle.std.specs.Prelude.{◌≡◌};
+ghost use Rattle.std.specs.Prelude.{◌≡◌, ◌==◌, find};
 ghost use Rattle.record.specs.Letters.{Rule, layout_at};
 
 use crate::letter::{Layout, Letter, Reference};
 
+// A constant of thirteen rows: the published table, kept as it is read beside the format.
 const LAYOUTS: [Layout; 13] = [
     Layout {
         byte: b'X',
@@ -98,15 +99,16 @@ const LAYOUTS: [Layout; 13] = [
     },
 ];
 
+fn row_of(byte: u8) -> Option<Layout>
+    ensures { result ≡ find (λ row. row.byte == byte) LAYOUTS }
+{
+    LAYOUTS.iter().copied().find(|row| row.byte == byte)
+}
+
 // The layout of the command that the byte stands for.
 pub fn layout(byte: u8) -> Option<Layout>
     ensures row { result ≡ layout_at byte }
     ensures rule { Rule }
 {
-    for row in LAYOUTS {
-        if row.byte == byte {
-            return Some(row);
-        }
-    }
-    None
+    row_of(byte)
 }

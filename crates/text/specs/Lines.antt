@@ -1,21 +1,14 @@
 -- The lines of a source. Assumes nothing.
-use Rattle.std.specs.Prelude.{ℕ, zero, suc, ◌+◌, cond, List, [], ◌∷◌, None, Option, ◌==◌}
-use Rattle.std.specs.List.{slice_get}
+use Rattle.std.specs.Prelude.{ℕ, zero, suc, List, None, Option, count_by, ◌==◌}
+use Rattle.std.specs.List.{slice_get, slice_split}
 
 -- how many bytes 0A there are
 abbrev pub breaks : List ℕ → ℕ
-breaks [] = 0
-breaks (b ∷ bs) = cond (b == 10) 1 0 + breaks bs
-
--- one byte more in front of the first line
-abbrev pub in_front : ℕ → List (List ℕ) → List (List ℕ)
-in_front b [] = (b ∷ []) ∷ []
-in_front b (l ∷ ls) = (b ∷ l) ∷ ls
+breaks bs = count_by (λ b. b == 10) bs
 
 -- the lines, each without its 0A
 abbrev pub lines : List ℕ → List (List ℕ)
-lines [] = [] ∷ []
-lines (b ∷ bs) = cond (b == 10) ([] ∷ lines bs) (in_front b (lines bs))
+lines bs = slice_split (λ b. b == 10) bs
 
 -- line n, counted from 1
 abbrev pub line_at : List ℕ → ℕ → Option (List ℕ)

@@ -16,37 +16,30 @@ impl Name {
     pub fn new(name: &[u8]) -> Result<Name, TextFault>
         ensures { Named name.now result }
     {
-        if name.len() > 255 {
+        let Ok(len) = u8::try_from(name.len()) else {
             return Err(TextFault::TooLong);
-        }
-        let Ok(text) = from_utf8(name) else {
-            return Err(TextFault::NotUtf8);
         };
-        let len = text.len();
+        from_utf8(name)?;
         let mut bytes = [0u8; 255];
-        bytes[0..len].copy_from_slice(text.as_bytes());
-        Ok(Name {
-            len: len as u8,
-            bytes,
-        })
+        bytes[..name.len()].copy_from_slice(name);
+        Ok(Name { len, bytes })
     }
 
     pub fn as_bytes(&self) -> &[u8]
         ensures { result.now ≡ name_bytes self.now }
     {
-        &self.bytes[0..self.len as usize]
+        &self.bytes[..usize::from(self.len)]
     }
 
     pub fn as_str(&self) -> &str
         ensures { result.now ≡ name_bytes self.now }
     {
-        match from_utf8(self.as_bytes()) {
-            Ok(text) => text,
-            Err(_) => unreachable!(),
-        }
+        from_utf8(self.as_bytes()).unwrap()
     }
 }
 
+// The comparisons are written out: derived ones would compare the length and the unused end of the
+// array, and not the bytes of the name alone.
 impl PartialEq for Name {
     ghost eq = { on name_bytes bytes_eq };
 

@@ -24,9 +24,6 @@ impl Part {
         if self.start as usize + self.len as usize > source.len() {
             return Err(TextFault::Outside);
         }
-        match from_utf8(self.bytes(source)) {
-            Ok(text) => Ok(text),
-            Err(_) => Err(TextFault::NotUtf8),
-        }
+        Ok(from_utf8(self.bytes(source))?)
     }
 }

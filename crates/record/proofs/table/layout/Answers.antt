@@ -1,12 +1,9 @@
-use Rattle.record.proofs.Lookup.{hit, miss, none, table_rule}
+use Rattle.std.proofs.Common.{◌∙◌}
+use Rattle.record.proofs.Lookup.{found_row, table_rule}
 use Rattle.record.proofs.table.layout.Goals as goal
 
-pub loop-row-preserved : goal.loop-row-preserved
-loop-row-preserved c = miss c.args.byte c.loop-row.row-index _ c.loop-row-test.true c.if-row-byte.false c.loop-row.invariant
+pub returns-clause-row : goal.returns-clause-row
+returns-clause-row c = c.row_of.ensures ∙ found_row c.args.byte
 
-pub returns-then-row-byte : goal.returns-then-row-byte
-returns-then-row-byte c =
-    record { row = hit c.args.byte c.loop-row.row-index _ c.loop-row-test.true c.if-row-byte.true c.loop-row.invariant; rule = table_rule }
-
-pub returns : goal.returns
-returns c = record { row = none c.args.byte c.loop-row.row-index c.loop-row-test.false c.loop-row.invariant; rule = table_rule }
+pub returns-clause-rule : goal.returns-clause-rule
+returns-clause-rule c = table_rule
