@@ -1,5 +1,6 @@
 -- The chunks of a template. Assumes nothing.
-use Rattle.std.specs.Prelude.{ℕ, Bool, false, cond, ◌||◌, List, [], ◌∷◌}
+use Rattle.std.specs.Prelude.{ℕ, Bool, cond, List, [], ◌∷◌}
+use Rattle.std.specs.List.{list_any}
 use Rattle.record.specs.declared.command.Command.{Command}
 use Rattle.record.specs.declared.command.Owner.{Owner}
 use Rattle.reader.specs.Places.{innermost, same_owner}
@@ -12,5 +13,4 @@ chunk_of owner before (c ∷ cs) = cond (same_owner owner (innermost 0 before)) 
 
 -- one of the commands is a call of super
 abbrev pub calls_super : List ℕ → List Command → Bool
-calls_super source [] = false
-calls_super source (c ∷ cs) = is_super source c || calls_super source cs
+calls_super source commands = list_any (is_super source) commands

@@ -1,5 +1,5 @@
 -- What a template refers to. Assumes nothing.
-use Rattle.std.specs.Prelude.{ℕ, ◌+◌, Bool, true, false, cond, ◌&&◌, List, [], ◌∷◌, Some, None, codes, Option}
+use Rattle.std.specs.Prelude.{ℕ, Bool, true, false, cond, ◌&&◌, List, [], ◌∷◌, Some, None, codes, position, Option}
 use Rattle.std.specs.Str.{bytes_eq}
 use Rattle.text.specs.Texts.{part_bytes}
 use Rattle.text.specs.declared.part.Part.{Part}
@@ -51,15 +51,6 @@ variable_of (Text p) = None
 variable_of Close = None
 variable_of End = None
 
-abbrev pub with_found : {X : Type 0} → Option X → List X → List X
-with_found None xs = xs
-with_found (Some x) xs = x ∷ xs
-
--- what the commands have, in their order
-abbrev pub gathered : {X : Type 0} → (Command → Option X) → List Command → List X
-gathered f [] = []
-gathered f (c ∷ cs) = with_found (f c) (gathered f cs)
-
 abbrev pub extended : Command → Option Part
 extended (Extends p) = Some p
 extended (Open o p) = None
@@ -74,7 +65,6 @@ abbrev pub parent_of : List Command → Option Part
 parent_of [] = None
 parent_of (c ∷ cs) = extended c
 
--- the place of the container of that kind and name, counted from i
-abbrev pub opener_of : List ℕ → Container → List ℕ → ℕ → List Command → Option ℕ
-opener_of source kind name i [] = None
-opener_of source kind name i (c ∷ cs) = cond (opens_named source kind name (opens c)) (Some i) (opener_of source kind name (i + 1) cs)
+-- the place of the command that opens the container of that kind and name
+abbrev pub opener_of : List ℕ → Container → List ℕ → List Command → Option ℕ
+opener_of source kind name commands = position (λ c. opens_named source kind name (opens c)) commands

@@ -13,12 +13,7 @@ use std::alloc::{AllocError, Global};
 fn stands_in(owner: Owner, entry: &Entry) -> bool
     ensures { result ≡ same_owner owner entry.now.owner }
 {
-    match (owner, entry.owner) {
-        (Owner::Body, Owner::Body) => true,
-        (Owner::Body, Owner::Container(_)) => false,
-        (Owner::Container(_), Owner::Body) => false,
-        (Owner::Container(i), Owner::Container(j)) => i == j,
-    }
+    entry.owner == owner
 }
 
 // The commands of which `owner` is the innermost container, in record order.
@@ -26,28 +21,27 @@ pub fn chunk(heap: Global, listing: &Listing, owner: Owner) -> Result<Vec<Entry>
     ensures entries { IfOk result (λ v. v.items ≡ filter (λ (e : Entry). same_owner owner e.owner) (entries_of listing.now)) }
     ensures innermost { IfOk result (λ v. commands_of v.items ≡ chunk_of owner [] (commands_of (entries_of listing.now))) }
 {
-    let entries = listing.entries();
-    let mut found = Vec::new(heap);
-    for entry in entries {
-        if stands_in(owner, entry) {
-            found.push(*entry)?;
-        }
-    }
-    Ok(found)
+    listing
+        .entries()
+        .iter()
+        .copied()
+        .filter(|entry| stands_in(owner, entry))
+        .collect(heap)
+}
+
+// Whether one of the entries that name `owner` is a call of the function `super`.
+fn calls_super(source: &[u8], owner: Owner, entries: &[Entry]) -> bool
+    ensures { result ≡ calls_super source.now (commands_of (filter (λ (e : Entry). same_owner owner e.owner) entries.now)) }
+{
+    let chunk = entries.iter().filter(|entry| stands_in(owner, entry));
+    chunk
+        .map(|entry| entry.command)
+        .any(|command| is_super(source, command))
 }
 
 // Whether the chunk calls super: a call of the function `super` stands directly in it.
 pub fn chunk_calls_super(listing: &Listing, owner: Owner) -> bool
     ensures { result ≡ calls_super (source_of listing.now) (chunk_of owner [] (commands_of (entries_of listing.now))) }
 {
-    let source = listing.source().as_bytes();
-    let entries = listing.entries();
-    for entry in entries {
-        if stands_in(owner, entry) {
-            if is_super(source, entry.command) {
-                return true;
-            }
-        }
-    }
-    false
+    calls_super(listing.source().as_bytes(), owner, listing.entries())
 }

@@ -1,8 +1,9 @@
 // What a template refers to, its parent, its variables and its containers.
 ghost use Rattle.std.specs.Prelude.{◌≡◌, IfOk};
+ghost use Rattle.std.specs.List.{filter_map};
 ghost use Rattle.reader.specs.Places.{commands_of};
 ghost use Rattle.reader.specs.Records.{entries_of, source_of};
-ghost use Rattle.chunks.specs.References.{call_of, extended, gathered, is_function, is_super, opener_of, parent_of, variable_of};
+ghost use Rattle.chunks.specs.References.{call_of, extended, is_super, opener_of, parent_of, variable_of};
 
 use crate::call::Call;
 use reader::listing::Listing;
@@ -11,22 +12,12 @@ use record::letter::Reference;
 use std::alloc::{AllocError, Global};
 use text::part::Part;
 
-fn is_function(kind: Reference) -> bool
-    ensures { result ≡ is_function kind }
-{
-    match kind {
-        Reference::Function => true,
-        _ => false,
-    }
-}
-
 // Whether the command calls up to the block of its name further up: a call of the function `super`.
 pub fn is_super(source: &[u8], command: Command) -> bool
     ensures { result ≡ is_super source.now command }
 {
     match command {
-        Command::Refer(kind, name, _) => is_function(kind)
-            && name.bytes(source) == b"super".as_slice(),
+        Command::Refer(Reference::Function, name, _) => name.bytes(source) == b"super".as_slice(),
         _ => false,
     }
 }
@@ -46,18 +37,13 @@ pub fn call(source: &[u8], command: Command) -> Option<Call>
 
 // Every reference of the template, at any depth, in record order.
 pub fn references(heap: Global, listing: &Listing) -> Result<Vec<Call>, AllocError>
-    ensures { IfOk result (λ v. v.items ≡ gathered (call_of (source_of listing.now)) (commands_of (entries_of listing.now))) }
+    ensures { IfOk result (λ v. v.items ≡ filter_map (call_of (source_of listing.now)) (commands_of (entries_of listing.now))) }
 {
     let source = listing.source().as_bytes();
-    let entries = listing.entries();
-    let mut calls = Vec::new(heap);
-    for entry in entries {
-        match call(source, entry.command) {
-            Some(call) => calls.push(call)?,
-            None => {}
-        }
-    }
-    Ok(calls)
+    let commands = listing.entries().iter().map(|entry| entry.command);
+    commands
+        .filter_map(|command| call(source, command))
+        .collect(heap)
 }
 
 // The variable that the command reads at the top level.
@@ -72,17 +58,12 @@ pub fn variable(command: Command) -> Option<Part>
 
 // Every top-level variable, at any depth, in record order; one that is read twice is there twice.
 pub fn variables(heap: Global, listing: &Listing) -> Result<Vec<Part>, AllocError>
-    ensures { IfOk result (λ v. v.items ≡ gathered variable_of (commands_of (entries_of listing.now))) }
+    ensures { IfOk result (λ v. v.items ≡ filter_map variable_of (commands_of (entries_of listing.now))) }
 {
-    let entries = listing.entries();
-    let mut names = Vec::new(heap);
-    for entry in entries {
-        match variable(entry.command) {
-            Some(name) => names.push(name)?,
-            None => {}
-        }
-    }
-    Ok(names)
+    let commands = listing.entries().iter().map(|entry| entry.command);
+    commands
+        .filter_map(|command| variable(command))
+        .collect(heap)
 }
 
 // The parent that the command names.
@@ -99,23 +80,17 @@ pub fn extended(command: Command) -> Option<Part>
 pub fn parent(listing: &Listing) -> Option<Part>
     ensures { result ≡ parent_of (commands_of (entries_of listing.now)) }
 {
-    let entries = listing.entries();
-    if entries.len() == 0 {
-        return None;
-    }
-    extended(entries[0].command)
+    listing
+        .entries()
+        .first()
+        .and_then(|entry| extended(entry.command))
 }
 
 // The place of the command that opens the container of that kind and name.
 pub fn opener(listing: &Listing, kind: Container, name: &[u8]) -> Option<usize>
-    ensures { result ≡ opener_of (source_of listing.now) kind name.now 0 (commands_of (entries_of listing.now)) }
+    ensures { result ≡ opener_of (source_of listing.now) kind name.now (commands_of (entries_of listing.now)) }
 {
     let source = listing.source().as_bytes();
-    let entries = listing.entries();
-    for (i, entry) in entries.iter().enumerate() {
-        if entry.command.opens(source, kind, name) {
-            return Some(i);
-        }
-    }
-    None
+    let mut commands = listing.entries().iter().map(|entry| entry.command);
+    commands.position(|command| command.opens(source, kind, name))
 }
