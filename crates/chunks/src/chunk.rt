@@ -33,8 +33,9 @@ pub fn chunk(heap: Global, listing: &Listing, owner: Owner) -> Result<Vec<Entry>
 fn calls_super(source: &[u8], owner: Owner, entries: &[Entry]) -> bool
     ensures { result ≡ calls_super source.now (commands_of (filter (λ (e : Entry). same_owner owner e.owner) entries.now)) }
 {
-    let chunk = entries.iter().filter(|entry| stands_in(owner, entry));
-    chunk
+    entries
+        .iter()
+        .filter(|entry| stands_in(owner, entry))
         .map(|entry| entry.command)
         .any(|command| is_super(source, command))
 }

@@ -40,8 +40,10 @@ pub fn references(heap: Global, listing: &Listing) -> Result<Vec<Call>, AllocErr
     ensures { IfOk result (λ v. v.items ≡ filter_map (call_of (source_of listing.now)) (commands_of (entries_of listing.now))) }
 {
     let source = listing.source().as_bytes();
-    let commands = listing.entries().iter().map(|entry| entry.command);
-    commands
+    listing
+        .entries()
+        .iter()
+        .map(|entry| entry.command)
         .filter_map(|command| call(source, command))
         .collect(heap)
 }
@@ -60,8 +62,10 @@ pub fn variable(command: Command) -> Option<Part>
 pub fn variables(heap: Global, listing: &Listing) -> Result<Vec<Part>, AllocError>
     ensures { IfOk result (λ v. v.items ≡ filter_map variable_of (commands_of (entries_of listing.now))) }
 {
-    let commands = listing.entries().iter().map(|entry| entry.command);
-    commands
+    listing
+        .entries()
+        .iter()
+        .map(|entry| entry.command)
         .filter_map(|command| variable(command))
         .collect(heap)
 }
@@ -91,6 +95,9 @@ pub fn opener(listing: &Listing, kind: Container, name: &[u8]) -> Option<usize>
     ensures { result ≡ opener_of (source_of listing.now) kind name.now (commands_of (entries_of listing.now)) }
 {
     let source = listing.source().as_bytes();
-    let mut commands = listing.entries().iter().map(|entry| entry.command);
-    commands.position(|command| command.opens(source, kind, name))
+    listing
+        .entries()
+        .iter()
+        .map(|entry| entry.command)
+        .position(|command| command.opens(source, kind, name))
 }
