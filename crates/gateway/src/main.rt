@@ -3,6 +3,7 @@
 
 mod samples;
 mod show;
+mod shown;
 
 use builtin::Builtin;
 use catalogue::{Catalogue, Kind, Overlay, Registry};
@@ -27,12 +28,12 @@ fn main(rt: HostRuntime) -> io::Result<()> {
     println!(rt;
         "A frame, a profile that widens its tail and calls up to it, and one that forgets to."
     )?;
-    template(&rt, &names, FRAME)?;
-    template(&rt, &names, METER)?;
-    template(&rt, &names, MUTE)?;
+    template(&rt, rt.alloc(), &names, FRAME)?;
+    template(&rt, rt.alloc(), &names, METER)?;
+    template(&rt, rt.alloc(), &names, MUTE)?;
     println!(rt; "")?;
     println!(rt; "Three damaged records.")?;
-    template(&rt, &names, TWO_OPEN)?;
-    template(&rt, &names, CUT_TEXT)?;
-    template(&rt, &names, LINE_ZERO)
+    template(&rt, rt.alloc(), &names, TWO_OPEN)?;
+    template(&rt, rt.alloc(), &names, CUT_TEXT)?;
+    template(&rt, rt.alloc(), &names, LINE_ZERO)
 }

@@ -1,86 +1,56 @@
 // What the program prints of a template.
 use crate::samples::Sample;
+use crate::shown::{ShownCommand, ShownNumber, ShownPlace, text};
 use builtin::Builtin;
 use catalogue::{Catalogue, Kind};
 use chunks::chunk::{chunk, chunk_calls_super};
 use chunks::references::{parent, references, variables};
 use reader::listing::Listing;
 use reader::read::read;
-use record::command::{Command, Entry, Opener, Owner};
-use record::fault::{Layer, ReadError, RecordFault};
+use record::command::{Command, Owner};
+use record::fault::ReadError;
 use record::letter::Reference;
+use std::alloc::Global;
 use std::io;
-use text::part::Part;
 
 // The template's commands, chunks and references, or why its record is refused.
-pub fn template<C: Catalogue>(rt: &HostRuntime, names: &C, sample: Sample) -> io::Result<()> {
+pub fn template<C: Catalogue>(
+    rt: &impl Print,
+    heap: Global,
+    names: &C,
+    sample: Sample,
+) -> io::Result<()> {
     let name = sample.name;
     let bytes = sample.record.len();
     println!(rt; "")?;
     println!(rt; "{name}: a record of {bytes} bytes")?;
-    match read(rt.alloc(), sample.source, sample.record) {
+    match read(heap, sample.source, sample.record) {
         Ok(listing) => {
             commands(rt, &listing)?;
-            chunks(rt, &listing)?;
-            references_of(rt, names, &listing)
+            chunks(rt, heap, &listing)?;
+            references_of(rt, heap, names, &listing)
         }
-        Err(ReadError::Record(fault)) => refusal(rt, fault),
+        Err(ReadError::Record(fault)) => println!(rt; "  refused {fault}"),
         Err(ReadError::Memory) => println!(rt; "  out of memory"),
     }
 }
 
-fn refusal(rt: &HostRuntime, fault: RecordFault) -> io::Result<()> {
-    let number = fault.reason.number();
-    let layer = match fault.reason.layer() {
-        Layer::Text => "text",
-        Layer::Record => "record",
-    };
-    let at = fault.at;
-    println!(rt; "  refused {number} {layer} at {at}")
-}
-
-// The text that a part names. Parts of a record that was read are text.
-fn text(source: &str, part: Part) -> &str {
-    match part.text(source.as_bytes()) {
-        Ok(text) => text,
-        Err(_) => "?",
-    }
-}
-
-fn reference(kind: Reference) -> &'static str {
-    match kind {
-        Reference::Filter => "filter",
-        Reference::Test => "test",
-        Reference::Function => "function",
-        Reference::Component => "component",
-        Reference::Include => "include",
-    }
-}
-
-fn opener(opener: Opener) -> &'static str {
-    match opener {
-        Opener::Block(_) => "block",
-        Opener::PlainBlock => "block",
-        Opener::Component => "component",
-    }
-}
-
 // Every command, set in as deep as it stands, with its owner and its place there.
-fn commands(rt: &HostRuntime, listing: &Listing) -> io::Result<()> {
+fn commands(rt: &impl Print, listing: &Listing) -> io::Result<()> {
     println!(rt; "  commands")?;
     let source = listing.source();
     let mut depth: usize = 0;
     for (i, entry) in listing.entries().iter().enumerate() {
+        let command = ShownCommand {
+            source,
+            command: entry.command,
+        };
+        let place = ShownPlace(*entry);
         print!(rt; "  {i:>4} ")?;
         for _ in 0..depth {
             print!(rt; "  ")?;
         }
-        command(rt, source, entry.command)?;
-        let place = entry.place;
-        match entry.owner {
-            Owner::Body => println!(rt; "  (in the body, place {place})")?,
-            Owner::Container(opener) => println!(rt; "  (in command {opener}, place {place})")?,
-        }
+        println!(rt; "{command}  ({place})")?;
         match entry.command {
             Command::Open(_, _) => depth = depth.saturating_add(1),
             Command::Close => depth = depth.saturating_sub(1),
@@ -90,57 +60,24 @@ fn commands(rt: &HostRuntime, listing: &Listing) -> io::Result<()> {
     Ok(())
 }
 
-fn command(rt: &HostRuntime, source: &str, command: Command) -> io::Result<()> {
-    match command {
-        Command::Extends(name) => {
-            let name = text(source, name);
-            print!(rt; "extends {name:?}")
-        }
-        Command::Open(kind, name) => {
-            let kind = opener(kind);
-            let name = text(source, name);
-            print!(rt; "{kind} {name:?}")
-        }
-        Command::Refer(kind, name, span) => {
-            let kind = reference(kind);
-            let name = text(source, name);
-            let line = span.start_line;
-            print!(rt; "{kind} {name:?} in line {line}")
-        }
-        Command::Variable(name) => {
-            let name = text(source, name);
-            print!(rt; "variable {name:?}")
-        }
-        Command::Text(part) => {
-            let part = text(source, part);
-            print!(rt; "text {part:?}")
-        }
-        Command::Close => print!(rt; "close"),
-        Command::End => print!(rt; "end"),
-    }
-}
-
 // How many commands each chunk has, and whether it calls super.
-fn chunks(rt: &HostRuntime, listing: &Listing) -> io::Result<()> {
+fn chunks(rt: &impl Print, heap: Global, listing: &Listing) -> io::Result<()> {
     println!(rt; "  chunks")?;
     print!(rt; "    body")?;
-    chunk_line(rt, listing, Owner::Body)?;
+    chunk_line(rt, heap, listing, Owner::Body)?;
     for (i, entry) in listing.entries().iter().enumerate() {
-        match entry.command {
-            Command::Open(kind, name) => {
-                let kind = opener(kind);
-                let name = text(listing.source(), name);
-                print!(rt; "    {kind} {name:?}")?;
-                chunk_line(rt, listing, Owner::Container(i))?;
-            }
-            _ => {}
+        if let Command::Open(opener, name) = entry.command {
+            let container = opener.container();
+            let name = text(listing.source(), name);
+            print!(rt; "    {container} {name:?}")?;
+            chunk_line(rt, heap, listing, Owner::Container(i))?;
         }
     }
     Ok(())
 }
 
-fn chunk_line(rt: &HostRuntime, listing: &Listing, owner: Owner) -> io::Result<()> {
-    let count = chunk(rt.alloc(), listing, owner)?.len();
+fn chunk_line(rt: &impl Print, heap: Global, listing: &Listing, owner: Owner) -> io::Result<()> {
+    let count = chunk(heap, listing, owner)?.len();
     if chunk_calls_super(listing, owner) {
         println!(rt; ": {count} commands, calls super")
     } else {
@@ -149,7 +86,12 @@ fn chunk_line(rt: &HostRuntime, listing: &Listing, owner: Owner) -> io::Result<(
 }
 
 // The parent, what the template refers to, and its variables.
-fn references_of<C: Catalogue>(rt: &HostRuntime, names: &C, listing: &Listing) -> io::Result<()> {
+fn references_of<C: Catalogue>(
+    rt: &impl Print,
+    heap: Global,
+    names: &C,
+    listing: &Listing,
+) -> io::Result<()> {
     let source = listing.source();
     match parent(listing) {
         Some(name) => {
@@ -158,42 +100,42 @@ fn references_of<C: Catalogue>(rt: &HostRuntime, names: &C, listing: &Listing) -
         }
         None => println!(rt; "  no parent")?,
     }
-    for call in references(rt.alloc(), listing)? {
-        let kind = reference(call.kind);
+    for call in references(heap, listing)? {
+        let kind = call.kind;
         let name = text(source, call.name);
         print!(rt; "  refers to {kind} {name:?}")?;
-        host_number(rt, names, call.kind, name)?;
+        host_number(rt, names, kind, name)?;
     }
-    for name in variables(rt.alloc(), listing)? {
+    for name in variables(heap, listing)? {
         let name = text(source, name);
         println!(rt; "  variable {name:?}")?;
     }
     Ok(())
 }
 
-// What the catalogues say of a name. Components and templates are not theirs.
+// The kind under which a catalogue knows what is referred to. Components and templates are not
+// its own. A function, since a conversion would have to stand in the crate of one of the two types,
+// and neither of these knows the other.
+fn host_kind(reference: Reference) -> Option<Kind> {
+    match reference {
+        Reference::Filter => Some(Kind::Filter),
+        Reference::Test => Some(Kind::Test),
+        Reference::Function => Some(Kind::Function),
+        Reference::Component | Reference::Include => None,
+    }
+}
+
+// What the catalogues say of a name.
 fn host_number<C: Catalogue>(
-    rt: &HostRuntime,
+    rt: &impl Print,
     names: &C,
     reference: Reference,
     name: &str,
 ) -> io::Result<()> {
-    let kind = match reference {
-        Reference::Filter => Kind::Filter,
-        Reference::Test => Kind::Test,
-        Reference::Function => Kind::Function,
-        _ => return println!(rt; ""),
+    let Some(kind) = host_kind(reference) else {
+        return println!(rt; "");
     };
-    print!(rt; ": built in ")?;
-    number(rt, Builtin.number(kind, name.as_bytes()))?;
-    print!(rt; ", here ")?;
-    number(rt, names.number(kind, name.as_bytes()))?;
-    println!(rt; "")
-}
-
-fn number(rt: &HostRuntime, number: Option<u16>) -> io::Result<()> {
-    match number {
-        Some(number) => print!(rt; "{number}"),
-        None => print!(rt; "unknown"),
-    }
+    let built_in = ShownNumber(Builtin.number(kind, name.as_bytes()));
+    let here = ShownNumber(names.number(kind, name.as_bytes()));
+    println!(rt; ": built in {built_in}, here {here}")
 }
