@@ -1,4 +1,7 @@
 // What a template refers to, its parent, its variables and its containers.
+//
+// Lists are asked of a listing and an allocator: a listing is read without one, and its own methods
+// stand with it in the crate `reader`, so these are functions.
 ghost use Rattle.std.specs.Prelude.{◌≡◌, IfOk};
 ghost use Rattle.std.specs.List.{filter_map};
 ghost use Rattle.reader.specs.Places.{commands_of};
@@ -48,7 +51,8 @@ pub fn references(heap: Global, listing: &Listing) -> Result<Vec<Call>, AllocErr
         .collect(heap)
 }
 
-// The variable that the command reads at the top level.
+// The variable that the command reads at the top level. Beside `extended` a function of its own: the
+// two tell two cases apart, and a case is no parameter.
 pub fn variable(command: Command) -> Option<Part>
     ensures { result ≡ variable_of command }
 {

@@ -1,4 +1,7 @@
 // What the program prints of a template.
+//
+// The runtime, the allocator and the listing are passed to each function that uses them: a struct of
+// them would hide which function prints and which asks for memory.
 use crate::samples::Sample;
 use crate::shown::{ShownCommand, ShownNumber, ShownPlace, text};
 use builtin::Builtin;

@@ -28,6 +28,8 @@ pub struct RecordFault {
     pub at: usize,
 }
 
+// What the caller of the reader gets: an error of its own, since memory says nothing of the record,
+// and an `Option` of a fault would not say what its absence is.
 #[derive(Clone, Copy)]
 pub enum ReadError {
     Record(RecordFault),

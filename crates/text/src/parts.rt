@@ -1,4 +1,4 @@
-// What a part names in a source.
+// What a part names in a source. Its numbers become places by `as`: no `From` leads from `u32` to `usize`.
 ghost use Rattle.std.specs.Prelude.{◌≡◌};
 ghost use Rattle.text.specs.Texts.{PartText, part_bytes};
 
