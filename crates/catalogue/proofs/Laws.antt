@@ -3,9 +3,8 @@ use Rattle.std.proofs.Common.{◌≡◌, ℕ, ◌+◌, ◌<◌, ◌≤◌, Bool,
 use Rattle.catalogue.specs.declared.kinds.Kind.{Kind}
 use Rattle.catalogue.specs.declared.kinds.Refusal.{Refusal}
 use Rattle.catalogue.specs.declared.kinds.Refusal.TheVariants.{Full}
-use Rattle.catalogue.specs.declared.runs.Registration.{Registration}
 use Rattle.catalogue.specs.Meaning.{Meaning, Registers, after, answer, or_else, same, write}
-use Rattle.catalogue.specs.Runs.{Leaves, Said, all_after, last_said, said, turned_down}
+use Rattle.catalogue.specs.Runs.{Leaves, Registration, Said, all_after, last_said, said, turned_down}
 use Rattle.catalogue.proofs.Answered.{heard}
 use Rattle.catalogue.proofs.Sames.{at_same, same_true}
 use Rattle.std.proofs.lemmas.List.{at_drop_more}

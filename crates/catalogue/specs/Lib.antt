@@ -2,4 +2,3 @@ pub mod Entries
 pub mod Meaning
 pub mod Numbers
 pub mod Runs
-pub mod Words

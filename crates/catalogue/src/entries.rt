@@ -1,22 +1,26 @@
-ghost use Rattle.catalogue.specs.Entries.{spells};
+ghost use Rattle.catalogue.specs.Meaning.{same};
 ghost use Rattle.std.specs.Prelude.{◌≡◌};
 
 use crate::kinds::Kind;
-use crate::words::Word;
+use arrayvec::ArrayVec;
+use std::convert::AsSlice;
 
-// A registered name with its number.
-#[derive(Clone, Copy)]
-pub struct Entry {
-    pub(crate) kind: Kind,
-    pub(crate) name: Word,
-    pub(crate) number: u16,
+// A name of some kind, with its number.
+#[derive(Clone, Copy, Drop)]
+pub struct Numbered<N> {
+    pub kind: Kind,
+    pub name: N,
+    pub number: u16,
 }
 
-impl Entry {
-    // Whether the entry is of this kind and name.
+impl<N: AsSlice<u8>> Numbered<N> {
+    // Whether it is of this kind and name.
     pub(crate) fn is(&self, kind: Kind, name: &[u8]) -> bool
-        ensures { result ≡ spells self.now kind name.now }
+        ensures { result ≡ same self.now.kind (N.items self.now.name) kind name.now }
     {
         self.kind == kind && self.name.as_slice() == name
     }
 }
+
+// A registered name, kept in place.
+pub(crate) type Entry = Numbered<ArrayVec<u8, 63>>;

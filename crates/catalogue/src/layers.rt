@@ -22,10 +22,8 @@ impl<A: Catalogue, B: Catalogue> Catalogue for Overlay<A, B> {
     }
 
     fn number(&self, kind: Kind, name: &[u8]) -> Option<u16> {
-        match self.own.number(kind, name) {
-            Some(number) => Some(number),
-            None => self.below.number(kind, name),
-        }
+        let own = self.own.number(kind, name);
+        own.or_else(|| self.below.number(kind, name))
     }
 
     fn holds(&self, kind: Kind, name: &[u8]) -> bool {

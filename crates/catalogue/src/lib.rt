@@ -7,10 +7,9 @@ mod layers;
 mod lookup;
 mod reserved;
 mod runs;
-mod spelling;
 mod table;
-mod words;
 
+pub use entries::Numbered;
 pub use kinds::{Kind, Refusal};
 pub use layers::Overlay;
 pub use lookup::Catalogue;

@@ -2,16 +2,12 @@ ghost use Rattle.catalogue.specs.Meaning.{after, same};
 ghost use Rattle.catalogue.specs.Runs.{Leaves, all_after, said, turned_down};
 ghost use Rattle.std.specs.Prelude.{◌≡◌, true, map, is_some};
 
+use crate::entries::Numbered;
 use crate::kinds::Kind;
 use crate::lookup::Catalogue;
 
 // A name that is to have a number.
-#[derive(Clone, Copy)]
-pub struct Registration<'a> {
-    pub kind: Kind,
-    pub name: &'a [u8],
-    pub number: u16,
-}
+pub type Registration<'a> = Numbered<&'a [u8]>;
 
 // Registers a name and then asks for a name, be it the same or another: a name that was known still is.
 pub fn ask_after<C: Catalogue>(

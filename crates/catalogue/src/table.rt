@@ -1,11 +1,11 @@
-ghost use Rattle.std.specs.Prelude.{◌≡◌, ◌<◌, IfOk};
-ghost use Rattle.catalogue.specs.Entries.{Placed, empty, registry};
+ghost use Rattle.std.specs.Prelude.{◌≡◌, IfOk, position};
+ghost use Rattle.catalogue.specs.Entries.{empty, registry, spells};
 
-use crate::entries::Entry;
+use crate::entries::Numbered;
 use crate::kinds::{Kind, Refusal};
 use crate::lookup::Catalogue;
 use crate::reserved::Registry;
-use crate::words::Word;
+use arrayvec::ArrayVec;
 use std::alloc::{AllocError, Global};
 
 impl Registry {
@@ -20,16 +20,11 @@ impl Registry {
         })
     }
 
-    // Where the entry of a name stands.
+    // Where the first entry of a name stands.
     fn place(&self, kind: Kind, name: &[u8]) -> Option<usize>
-        ensures { Placed self.now.entries.items kind name.now result }
+        ensures { result ≡ position (λ e. spells e kind name.now) self.now.entries.items }
     {
-        for (i, entry) in self.entries.iter().enumerate() {
-            if entry.is(kind, name) {
-                return Some(i);
-            }
-        }
-        None
+        self.entries.iter().position(|entry| entry.is(kind, name))
     }
 }
 
@@ -45,14 +40,14 @@ impl Catalogue for Registry {
     }
 
     fn number(&self, kind: Kind, name: &[u8]) -> Option<u16> {
-        match self.place(kind, name) {
-            Some(i) => Some(self.entries[i].number),
-            None => None,
-        }
+        self.entries
+            .iter()
+            .find(|entry| entry.is(kind, name))
+            .map(|entry| entry.number)
     }
 
     fn holds(&self, kind: Kind, name: &[u8]) -> bool {
-        self.place(kind, name).is_some()
+        self.number(kind, name).is_some()
     }
 
     fn places(&self) -> usize {
@@ -65,12 +60,10 @@ impl Catalogue for Registry {
         }
         match self.place(kind, name) {
             Some(i) => self.entries[i].number = number,
+            None if self.places() == 0 => return Err(Refusal::Full),
             None => {
-                if self.entries.len() >= self.limit {
-                    return Err(Refusal::Full);
-                }
-                let name = Word::new(name);
-                self.entries.push_reserved(Entry { kind, name, number });
+                let name = ArrayVec::try_from(name).unwrap();
+                self.entries.push_reserved(Numbered { kind, name, number });
             }
         }
         Ok(())
