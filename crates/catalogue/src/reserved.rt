@@ -3,6 +3,9 @@ ghost use Rattle.std.specs.Prelude.{◌≤◌, vec_len, vec_capacity};
 use crate::entries::Entry;
 
 // The caller's own catalogue: room for `limit` names, reserved when it is made.
+//
+// A list that is searched from the front, and no map: a map asks for memory at each new name, and registering may not.
+// The ordered table of the crate `table` has the same two fields and facts, and no call in common with this: they stay two types.
 #[derive(Drop)]
 pub struct Registry {
     pub(crate) entries: Vec<Entry>,
