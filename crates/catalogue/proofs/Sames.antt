@@ -1,11 +1,8 @@
 -- One kind and one name.
-use Rattle.std.proofs.Common.{◌≡◌, ℕ, Bool, true, ◌&&◌, List, sym, refl, ap, ◌∙◌, subst, true≢false, arith}
+use Rattle.std.proofs.Common.{◌≡◌, ℕ, true, List, refl, arith}
 use Rattle.catalogue.specs.declared.kinds.Kind.{Kind}
-use Rattle.catalogue.specs.declared.kinds.Kind.TheVariants.{Filter, Test, Function}
-use Rattle.catalogue.specs.Meaning.{same_kind, same}
-use Rattle.std.proofs.lemmas.Bool.{and_parts}
+use Rattle.catalogue.specs.Meaning.{same}
 use Rattle.std.proofs.lemmas.Slice.Eq.{bytes_eq-Decides}
-use Rattle.std.specs.Str.{bytes_eq}
 
 -- what is said of one name is said of the other
 pub same_true : (k : Kind) (n : List ℕ) (k' : Kind) (n' : List ℕ) → same k n k' n' ≡ true → (k ≡ k') × (n ≡ n')

@@ -7,6 +7,8 @@ invariant-loop-new g l =
     let most = g.C.Catalogue.longest in
     let start = g.C.Catalogue.means l.initial.catalogue in
     let here = g.C.Catalogue.means l.catalogue in
-    (l.refused + turned_down most here (map said (drop l.new-index l.list)) ≡ turned_down most start (map said l.list))
-    × (all_after most here (map said (drop l.new-index l.list)) ≡ all_after most start (map said l.list))
-    × (l.refused ≤ l.new-index)
+    record {
+      counts : l.refused + turned_down most here (map said (drop l.new-index l.list)) ≡ turned_down most start (map said l.list);
+      leaves : all_after most here (map said (drop l.new-index l.list)) ≡ all_after most start (map said l.list);
+      fits : l.refused ≤ l.new-index;
+    }
