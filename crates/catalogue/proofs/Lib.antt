@@ -1,4 +1,3 @@
-mod Answered
 pub mod Laws
 mod Listings
 pub mod Sames
