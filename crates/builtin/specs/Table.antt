@@ -1,5 +1,5 @@
 -- The table of the built-in names: what it holds, what it means, and its rule.
-use Rattle.std.specs.Prelude.{◌≡◌, ℕ, ◌+◌, Bool, false, cond, List, [], ◌∷◌, ◌++◌, length, Some, None, Option}
+use Rattle.std.specs.Prelude.{◌≡◌, ℕ, ◌+◌, Bool, false, List, [], ◌∷◌, ◌++◌, length, Some, Option, find, option_map}
 use Rattle.builtin.specs.declared.rows.Known.{Known}
 use Rattle.builtin.specs.Names.{filter_names, test_names, function_names}
 use Rattle.catalogue.specs.Meaning.{Meaning, same}
@@ -28,13 +28,12 @@ unfoldable pub built_ins : List Row
 built_ins = numbered Filter 0 filter_names ++ (numbered Test 37 test_names ++ numbered Function 54 function_names)
 
 -- the number of the first row of a name
-abbrev pub find : List Row → Kind → List ℕ → Option ℕ
-find [] k n = None
-find (r ∷ rs) k n = cond (is_known r k n) (Some r.number) (find rs k n)
+abbrev pub lookup : List Row → Kind → List ℕ → Option ℕ
+lookup rs k n = option_map (λ r. r.number) (find (λ r. is_known r k n) rs)
 
 -- the names have their numbers, none is held, and there are no places
 abbrev pub builtin : Meaning
-builtin = record { map = find built_ins; held = λ k n. false; places = 0 }
+builtin = record { map = lookup built_ins; held = λ k n. false; places = 0 }
 
 -- 37 filters, 17 tests, 2 functions; each number is its place, from 0 to 55; no name stands twice under one kind; so each has its own number
 pub record Rule : Type 0 where

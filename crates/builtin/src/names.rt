@@ -37,13 +37,10 @@ impl Catalogue for Builtin {
     }
 
     fn number(&self, kind: Kind, name: &[u8]) -> Option<u16> {
-        let rows = known();
-        for row in rows {
-            if row.is(kind, name) {
-                return Some(row.2);
-            }
-        }
-        None
+        known()
+            .iter()
+            .find(|row| row.is(kind, name))
+            .map(|row| row.2)
     }
 
     fn holds(&self, _kind: Kind, _name: &[u8]) -> bool {
@@ -55,10 +52,10 @@ impl Catalogue for Builtin {
     }
 
     fn register(&mut self, _kind: Kind, name: &[u8], _number: u16) -> Result<(), Refusal> {
-        if name.len() > Self::LONGEST {
-            Err(Refusal::TooLong)
+        Err(if name.len() > Self::LONGEST {
+            Refusal::TooLong
         } else {
-            Err(Refusal::Full)
-        }
+            Refusal::Full
+        })
     }
 }

@@ -1,13 +1,19 @@
-use Rattle.std.proofs.Common.{map, rules}
-use Rattle.builtin.specs.Table.{find, shown}
-use Rattle.std.proofs.lemmas.List.{at_drop_all, at_drop_more}
+use Rattle.std.proofs.Common.{◌≡◌, ℕ, List, [], ◌∷◌, map, find, option_map, refl, arith, rules, tests}
+use Rattle.builtin.specs.declared.rows.Known.{Known}
+use Rattle.builtin.specs.Table.{is_known, lookup, shown}
+use Rattle.catalogue.specs.declared.kinds.Kind.{Kind}
+use Rattle.std.proofs.lemmas.Grind.{common_steps}
+use Rattle.std.proofs.lemmas.Iterator.{YieldsList-from_slice}
+use Rattle.std.proofs.lemmas.Iterator.Search.{find_from_yields_List}
 use Rattle.builtin.proofs.names.BuiltinCatalogue.number.Goals as goal
 
-pub returns-then-is : goal.returns-then-is
-returns-then-is c = search (rules, at_drop_more (λ rs. find (map shown rs) c.args.kind c.args.name.now) c.known-rows.result.now c.loop-row.row-index)
-
-pub loop-row-preserved : goal.loop-row-preserved
-loop-row-preserved c = search (rules, at_drop_more (λ rs. find (map shown rs) c.args.kind c.args.name.now) c.known-rows.result.now c.loop-row.row-index)
+lookup-shown : (rows : List Known) (k : Kind) (n : List ℕ) → lookup (map shown rows) k n ≡ option_map (λ r. r.2) (find (λ r. is_known (shown r) k n) rows)
+lookup-shown [] k n = refl
+lookup-shown (r ∷ rows) k n = grind (arith, lookup-shown rows k n)
 
 pub returns : goal.returns
-returns c = search (rules, at_drop_all (λ rs. find (map shown rs) c.args.kind c.args.name.now) c.known-rows.result.now c.loop-row.row-index)
+returns c =
+    let rows = c.known.result.now in
+    let first : option_map (λ r. r.now) c.find.result ≡ find (λ r. is_known (shown r) c.args.kind c.args.name.now) rows =
+    find_from_yields_List (λ r. is_known (shown r) c.args.kind c.args.name.now) _ _ c.find.result c.find.ensures.ran (YieldsList-from_slice rows cc) (λ x b q k. search (rules, tests)) in
+    grind (arith, common_steps, lookup-shown rows c.args.kind c.args.name.now)
