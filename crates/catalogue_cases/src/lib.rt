@@ -2,9 +2,8 @@
 #![tactic(auto)]
 
 ghost use Rattle.builtin.specs.Table.{builtin};
-ghost use Rattle.catalogue.specs.Entries.{empty};
+ghost use Rattle.catalogue.specs.Entries.{empty, registry};
 ghost use Rattle.catalogue.specs.Meaning.{over};
-ghost use Rattle.catalogue.specs.Entries.{registry};
 ghost use Rattle.std.specs.Prelude.{◌≡◌, IfOk};
 
 use builtin::Builtin;

@@ -4,21 +4,17 @@ use catalogue::{Catalogue, Kind, Overlay, Refusal, Registry};
 use std::process::Abort;
 use std::test::Fail;
 
-// 0 for a registration that was taken, else the number of the refusal.
-fn told(answer: Result<(), Refusal>) -> u8 {
-    match answer {
-        Ok(()) => 0,
-        Err(refusal) => refusal.number(),
-    }
-}
-
-// Registers names of `n`s with the number 9: the kind, the length, what is told and the places left after it.
-fn heard<C: Catalogue>(rt: &impl Abort, catalogue: &mut C, cases: &[(Kind, usize, u8, usize)]) {
+// Registers names of `n`s with the number 9: the kind, the length, the answer or the number of its refusal, and the places left after it.
+fn heard<C: Catalogue>(
+    rt: &impl Abort,
+    catalogue: &mut C,
+    cases: &[(Kind, usize, Result<(), u8>, usize)],
+) {
     let bytes = [b'n'; 256];
     for (kind, length, answer, places) in cases {
         assert!(rt; *length <= 256);
         let name = &bytes[0..*length];
-        assert!(rt; told(catalogue.register(*kind, name, 9)) == *answer);
+        assert!(rt; catalogue.register(*kind, name, 9).map_err(Refusal::number) == *answer);
         assert!(rt; catalogue.places() == *places);
     }
 }
@@ -31,18 +27,21 @@ fn lengths_and_places(rt: HostRuntime) -> Result<(), Fail> {
         &rt,
         &mut own,
         &[
-            (Kind::Filter, 64, 31, 2),
-            (Kind::Filter, 63, 0, 1),
-            (Kind::Test, 0, 0, 0),
-            (Kind::Test, 63, 32, 0),
-            (Kind::Filter, 63, 0, 0),
-            (Kind::Test, 64, 31, 0),
+            (Kind::Filter, 64, Err(31), 2),
+            (Kind::Filter, 63, Ok(()), 1),
+            (Kind::Test, 0, Ok(()), 0),
+            (Kind::Test, 63, Err(32), 0),
+            (Kind::Filter, 63, Ok(()), 0),
+            (Kind::Test, 64, Err(31), 0),
         ],
     );
     heard(
         &rt,
         &mut Builtin,
-        &[(Kind::Filter, 255, 32, 0), (Kind::Filter, 256, 31, 0)],
+        &[
+            (Kind::Filter, 255, Err(32), 0),
+            (Kind::Filter, 256, Err(31), 0),
+        ],
     );
     Ok(())
 }
