@@ -2,7 +2,8 @@ use catalogue::Kind;
 
 // A built-in name: its kind, the name and its number.
 //
-// A tuple, and no `Numbered` of the crate `catalogue`: with named fields a row of the table would take five lines in place of one.
+// A tuple, and no `Numbered` of the crate `catalogue`: with named fields a row of the table would
+// take five lines in place of one.
 #[derive(Clone, Copy)]
 pub struct Known(pub Kind, pub &'static str, pub u16);
 

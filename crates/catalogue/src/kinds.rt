@@ -19,7 +19,7 @@ pub enum Refusal {
 }
 
 impl Refusal {
-    // The published number of the refusal. Programs print it, so it is given here, once, for each case.
+    // The published number of the refusal. Programs print it: it is attached to each case here alone.
     pub fn number(self) -> u8
         ensures { result ≡ published self }
     {

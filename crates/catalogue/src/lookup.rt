@@ -6,7 +6,9 @@ use crate::kinds::{Kind, Refusal};
 // A catalogue means a map from kind and name to a number, the names that it holds itself, and the places it has left.
 //
 // Asking tells the meaning and alters nothing. Registering is all that alters it.
-// Kind and name are two parameters: a caller writes the kind and reads the name, and would make a struct of them only to be taken apart.
+//
+// Kind and name stay two parameters: a caller writes the kind and reads the name, and would make a
+// struct of them only for the catalogue to take it apart.
 pub trait Catalogue {
     // The longest name that the catalogue takes, in bytes.
     const LONGEST: usize;

@@ -4,8 +4,9 @@ use crate::entries::Entry;
 
 // The caller's own catalogue: room for `limit` names, reserved when it is made.
 //
-// A list that is searched from the front, and no map: a map asks for memory at each new name, and registering may not.
-// The ordered table of the crate `table` has the same two fields and facts, and no call in common with this: they stay two types.
+// A list that is searched from the front, and no map: a map asks for memory at each new name,
+// which registering may not do. The ordered table of the crate `table` has the same two fields and
+// facts, but no call in common with this one, so the two stay apart.
 #[derive(Drop)]
 pub struct Registry {
     pub(crate) entries: Vec<Entry>,

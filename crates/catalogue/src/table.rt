@@ -58,7 +58,7 @@ impl Catalogue for Registry {
         if name.len() > Self::LONGEST {
             return Err(Refusal::TooLong);
         }
-        // By its place, since nothing would be known of the entries once `iter_mut().find(..)` had lent one.
+        // By the place: of the entries that `iter_mut().find(..)` lends, a proof knows nothing after.
         match self.place(kind, name) {
             Some(i) => self.entries[i].number = number,
             None if self.places() == 0 => return Err(Refusal::Full),

@@ -4,7 +4,8 @@ use catalogue::{Catalogue, Kind, Overlay, Refusal, Registry};
 use std::process::Abort;
 use std::test::Fail;
 
-// Registers names of `n`s with the number 9: the kind, the length, the answer or the number of its refusal, and the places left after it.
+// Registers names of `n`s with the number 9. A case has the kind, the length, the answer (a refusal
+// by its number), and the places left after it.
 fn heard<C: Catalogue>(
     rt: &impl Abort,
     catalogue: &mut C,
