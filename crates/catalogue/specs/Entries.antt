@@ -6,6 +6,7 @@ use Rattle.catalogue.specs.declared.kinds.Kind.{Kind}
 use Rattle.catalogue.specs.declared.reserved.Registry.{Registry}
 use Rattle.catalogue.specs.Meaning.{Meaning, same}
 
+-- a registered name
 abbrev pub Entry : Type 0
 Entry = Numbered (ArrayVec ℕ)
 

@@ -5,6 +5,7 @@ use Rattle.catalogue.specs.declared.entries.Numbered.{Numbered}
 use Rattle.std.specs.Borrow.{Bor}
 use Rattle.catalogue.specs.Meaning.{Meaning, after, answer, or_else, same}
 
+-- a name that is to have a number
 abbrev pub Registration : Type 0
 Registration = Numbered (Bor (List ℕ))
 

@@ -19,7 +19,7 @@ pub enum Refusal {
 }
 
 impl Refusal {
-    // The published number of the refusal. Programs print it: it is attached to each case here alone.
+    // The published number of the refusal, which programs print: one definition for each case.
     pub fn number(self) -> u8
         ensures { result ≡ published self }
     {

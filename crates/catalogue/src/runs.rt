@@ -1,4 +1,4 @@
-ghost use Rattle.catalogue.specs.Meaning.{after, same};
+ghost use Rattle.catalogue.specs.Meaning.{after};
 ghost use Rattle.catalogue.specs.Runs.{Leaves, all_after, said, turned_down};
 ghost use Rattle.std.specs.Prelude.{◌≡◌, true, map, is_some};
 

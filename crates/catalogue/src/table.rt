@@ -58,7 +58,7 @@ impl Catalogue for Registry {
         if name.len() > Self::LONGEST {
             return Err(Refusal::TooLong);
         }
-        // By the place: of the entries that `iter_mut().find(..)` lends, a proof knows nothing after.
+        // By the place: once `iter_mut().find(..)` has lent an entry, a proof knows nothing of them.
         match self.place(kind, name) {
             Some(i) => self.entries[i].number = number,
             None if self.places() == 0 => return Err(Refusal::Full),
