@@ -1,9 +1,7 @@
 pub mod Cuts
 pub mod Exact
-pub mod Lists
 pub mod Orderly
 pub mod Placing
 pub mod Seeking
 pub mod Sorting
 pub mod Tested
-pub mod Totals

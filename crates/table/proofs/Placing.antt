@@ -1,45 +1,29 @@
--- Where a row is let in: the walk over the rows that are not greater, and the place that a search gives.
-use Rattle.std.proofs.Common.{◌≡◌, ℕ, zero, suc, ◌+◌, ◌<◌, ◌≤◌, Bool, true, false, cond, List, [], ◌∷◌, ◌++◌, length, get_or, take, drop, Ordering, Less, Equal, Greater, sym, refl, ap, ◌∙◌, true≢false}
-use Rattle.std.proofs.lemmas.List.{append_assoc, take_more, drop_more, drop_all}
-use Rattle.std.proofs.lemmas.Bool.{cond-true, cond-false}
-use Rattle.std.specs.List.{insert, AllByRecursion}
-use Rattle.std.specs.Ordering.{is_le, is_gt}
+-- Where a row is let in: before the first row that is greater, which is also where a search among rows in order ends.
+use Rattle.std.proofs.Common.{◌≡◌, ℕ, suc, ◌+◌, ◌≤◌, cond, not, List, [], ◌∷◌, length, Ordering, Less, Equal, Greater, Option, unwrap_or, sym, refl, ap, ◌∙◌, arith}
+use Rattle.std.proofs.lemmas.Bool.Decides.{nat_tests}
+use Rattle.std.proofs.lemmas.List.Sums.{position_or_len_is, prefix_len-le-length}
+use Rattle.std.specs.List.{insert, position, position_or_len}
+use Rattle.std.specs.List.Sorted.{IsPartitionPoint}
+use Rattle.std.specs.Ordering.{is_gt, is_le}
 use Rattle.table.specs.Order.{insert_in}
 
-le_from_gt : (a : Ordering) (b : Bool) → is_gt a ≡ b → is_le a ≡ cond b false true
-le_from_gt Less true h = absurd (true≢false (sym h))
-le_from_gt Less false h = refl
-le_from_gt Equal true h = absurd (true≢false (sym h))
-le_from_gt Equal false h = refl
-le_from_gt Greater true h = refl
-le_from_gt Greater false h = absurd (true≢false h)
-
 module _ {X : Type 0} (c : X → X → Ordering) (x : X) where
-  module _ (xs : List X) (i : ℕ) where
-    next : (y : X) → i < length xs → y ≡ get_or xs i y → drop i xs ≡ y ∷ drop (i + 1) xs
-    next y l e = drop_more xs i y l ∙ ap (λ z. z ∷ drop (i + 1) xs) (sym e)
+  pub placed : (xs : List X) → insert xs (position_or_len (λ y. is_gt (c y x)) xs) x ≡ insert_in c x xs
+  placed [] = refl
+  placed (y ∷ ys) =
+      let n = position_or_len (λ z. is_gt (c z x)) ys in
+      let next : 1 + n ≡ suc n = omega arith in
+      let after : insert (y ∷ ys) (1 + n) x ≡ y ∷ insert_in c x ys = ap (λ k. insert (y ∷ ys) k x) next ∙ ap (λ zs. y ∷ zs) (placed ys) in
+      elim (c y x) as (λ r. insert (y ∷ ys) (cond (not (is_gt r)) (1 + n) 0) x ≡ cond (is_le r) (y ∷ insert_in c x ys) (x ∷ y ∷ ys)) [ Less ↦ after | Equal ↦ after | Greater ↦ refl ]
 
-    pub place_more : (y : X) → i < length xs → y ≡ get_or xs i y → is_gt (c y x) ≡ false → take i xs ++ insert_in c x (drop i xs) ≡ insert_in c x xs → take (i + 1) xs ++ insert_in c x (drop (i + 1) xs) ≡ insert_in c x xs
-    place_more y l e g inv =
-        let rest = insert_in c x (drop (i + 1) xs) in
-        let passed : insert_in c x (drop i xs) ≡ y ∷ rest = ap (insert_in c x) (next y l e) ∙ cond-true (is_le (c y x)) (y ∷ rest) (x ∷ y ∷ drop (i + 1) xs) (le_from_gt (c y x) false g) in
-        ap (λ zs. zs ++ rest) (take_more xs i y l ∙ ap (λ z. take i xs ++ z ∷ []) (sym e))
-        ∙ append_assoc (take i xs) (y ∷ []) rest
-        ∙ ap (λ zs. take i xs ++ zs) (sym passed)
-        ∙ inv
+  -- the place as a program finds it
+  pub placed_at : (xs : List X) (r : Option ℕ) → r ≡ position (λ y. is_gt (c y x)) xs → insert xs (unwrap_or r (length xs)) x ≡ insert_in c x xs
+  placed_at xs r e =
+      let within = prefix_len-le-length (λ y. not (is_gt (c y x))) xs in
+      let at : unwrap_or r (length xs) ≡ position_or_len (λ y. is_gt (c y x)) xs = grind (arith, nat_tests) in
+      rw at (placed xs)
 
-    pub place_stop : (y : X) → i < length xs → y ≡ get_or xs i y → is_gt (c y x) ≡ true → take i xs ++ insert_in c x (drop i xs) ≡ insert_in c x xs → insert xs i x ≡ insert_in c x xs
-    place_stop y l e g inv =
-        let rest = drop (i + 1) xs in
-        let stops : insert_in c x (drop i xs) ≡ x ∷ drop i xs = ap (insert_in c x) (next y l e) ∙ cond-false (is_le (c y x)) (y ∷ insert_in c x rest) (x ∷ y ∷ rest) (le_from_gt (c y x) true g) ∙ ap (λ zs. x ∷ zs) (sym (next y l e)) in
-        ap (λ zs. take i xs ++ zs) (sym stops) ∙ inv
-
-    pub place_all : length xs ≤ i → take i xs ++ insert_in c x (drop i xs) ≡ insert_in c x xs → insert xs i x ≡ insert_in c x xs
-    place_all l inv = ap (λ zs. take i xs ++ zs) (ap (λ zs. x ∷ zs) (drop_all i xs l) ∙ sym (ap (insert_in c x) (drop_all i xs l))) ∙ inv
-
-  -- a place that parts the rows that are not greater from those that are
-  pub insert_at : (i : ℕ) (xs : List X) → AllByRecursion (λ y. is_le (c y x) ≡ true) (take i xs) → AllByRecursion (λ y. is_le (c y x) ≡ false) (drop i xs) → insert xs i x ≡ insert_in c x xs
-  insert_at zero [] h k = refl
-  insert_at zero (y ∷ ys) h k = sym (cond-false (is_le (c y x)) (y ∷ insert_in c x ys) (x ∷ y ∷ ys) k.0)
-  insert_at (suc i) [] h k = refl
-  insert_at (suc i) (y ∷ ys) h k = ap (λ zs. y ∷ zs) (insert_at i ys h.1 k) ∙ sym (cond-true (is_le (c y x)) (y ∷ insert_in c x ys) (x ∷ y ∷ ys) h.0)
+  pub parted : (xs : List X) (i : ℕ) → i ≤ length xs → IsPartitionPoint (λ y. c y x ≡ Less) (λ y. c y x ≡ Greater) xs i → insert xs i x ≡ insert_in c x xs
+  parted xs i l p =
+      let first = position_or_len_is (λ y. is_gt (c y x)) xs i x l (λ k h. ap is_gt (p.0 k x (omega arith) h)) (λ h. ap is_gt (p.1 i x (omega arith) h)) in
+      ap (λ k. insert xs k x) (sym first) ∙ placed xs

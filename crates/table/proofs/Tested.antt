@@ -1,25 +1,19 @@
 -- Rows in order, by the test and by the fact: a ghost field has the test, and the contracts of a table speak of the fact.
 use Rattle.std.proofs.Common.{◌≡◌, Bool, true, List, [], ◌∷◌, refl}
 use Rattle.std.proofs.lemmas.Bool.{and_from, and_parts}
-use Rattle.std.specs.List.{list_all, AllByRecursion}
+use Rattle.std.proofs.lemmas.List.Elements.{All-from_recursion, recursion_from_All}
+use Rattle.std.proofs.lemmas.List.Sums.{AllPass-from_list_all, list_all-from_AllPass}
+use Rattle.std.specs.List.{list_all}
 use Rattle.table.specs.Order.{InOrder, in_order}
 
-all_from_pass : {X : Type 0} (p : X → Bool) (xs : List X) → list_all p xs ≡ true → AllByRecursion (λ y. p y ≡ true) xs
-all_from_pass p [] h = tt
-all_from_pass p (x ∷ xs) h =
-    let q = and_parts (p x) (list_all p xs) h in
-    (q.0, all_from_pass p xs q.1)
+module _ {X : Type 0} (t : X → X → Bool) where
+  pub order_from_test : (xs : List X) → in_order t xs ≡ true → InOrder t xs
+  order_from_test [] h = tt
+  order_from_test (x ∷ xs) h =
+      let q = and_parts (list_all (t x) xs) (in_order t xs) h in
+      (recursion_from_All (λ y. t x y ≡ true) xs (AllPass-from_list_all (t x) xs q.0), order_from_test xs q.1)
 
-pass_from_all : {X : Type 0} (p : X → Bool) (xs : List X) → AllByRecursion (λ y. p y ≡ true) xs → list_all p xs ≡ true
-pass_from_all p [] h = refl
-pass_from_all p (x ∷ xs) h = and_from (p x) (list_all p xs) h.0 (pass_from_all p xs h.1)
-
-pub order_from_test : {X : Type 0} (t : X → X → Bool) (xs : List X) → in_order t xs ≡ true → InOrder t xs
-order_from_test t [] h = tt
-order_from_test t (x ∷ xs) h =
-    let q = and_parts (list_all (t x) xs) (in_order t xs) h in
-    (all_from_pass (t x) xs q.0, order_from_test t xs q.1)
-
-pub test_from_order : {X : Type 0} (t : X → X → Bool) (xs : List X) → InOrder t xs → in_order t xs ≡ true
-test_from_order t [] o = refl
-test_from_order t (x ∷ xs) o = and_from (list_all (t x) xs) (in_order t xs) (pass_from_all (t x) xs o.0) (test_from_order t xs o.1)
+  pub test_from_order : (xs : List X) → InOrder t xs → in_order t xs ≡ true
+  test_from_order [] o = refl
+  test_from_order (x ∷ xs) o =
+      and_from (list_all (t x) xs) (in_order t xs) (list_all-from_AllPass (t x) xs (All-from_recursion (λ y. t x y ≡ true) xs o.0)) (test_from_order xs o.1)

@@ -16,10 +16,7 @@ impl<R> Table<R> {
         requires room { vec_len self.old.rows < self.old.limit }
         ensures { Becomes self.old (insert (held self.old) place row) self.new }
     {
-        match self.rows.insert(place, row) {
-            Ok(()) => {}
-            Err(_) => unreachable!(),
-        }
+        self.rows.insert(place, row).unwrap();
     }
 
     // Takes the row at a place out; the later rows close the gap.
@@ -58,12 +55,10 @@ impl<R: Row> Table<R> {
         ensures within { result ≤ vec_len self.now.rows }
         ensures there { insert (held self.now) result row.now ≡ insert_in R.compare row.now (held self.now) }
     {
-        for (i, other) in self.rows.iter().enumerate() {
-            if after(other, row) {
-                return i;
-            }
-        }
-        self.rows.len()
+        self.rows
+            .iter()
+            .position(|other| after(other, row))
+            .unwrap_or(self.rows.len())
     }
 
     // Lets a row in among the others; a full table gives it back, and nothing is altered.
@@ -73,7 +68,7 @@ impl<R: Row> Table<R> {
         ensures ascending { Ascending R.compare (held self.old) → Ascending R.compare (held self.new) }
         ensures strict { Strict R.compare (held self.old) → Absent R.key (held self.old) row → Strict R.compare (held self.new) }
     {
-        if self.rows.len() >= self.limit {
+        if self.is_full() {
             return Err(row);
         }
         let place = self.place(&row);
@@ -91,7 +86,7 @@ impl<R: Row> Table<R> {
         match self.locate(&row) {
             Ok(i) => Ok(Some(replace(&mut self.rows[i], row))),
             Err(i) => {
-                if self.rows.len() >= self.limit {
+                if self.is_full() {
                     return Err(row);
                 }
                 self.put(i, row);

@@ -18,7 +18,7 @@ impl<R: Row> Table<R> {
     {
         self.came = self.came.saturating_add(1);
         let place = self.place(&row);
-        if self.rows.len() < self.limit {
+        if !self.is_full() {
             self.put(place, row);
             return None;
         }

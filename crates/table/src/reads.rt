@@ -74,9 +74,6 @@ impl<R: Row> Table<R> {
         ensures finds { Found R.compare R.key (held self.now) row.now result }
         ensures exact { Strict R.compare (held self.now) → result ≡ seek (λ y. R.compare y row.now) 0 (held self.now) }
     {
-        match self.locate(row) {
-            Ok(place) => Some(place),
-            Err(_) => None,
-        }
+        self.locate(row).ok()
     }
 }

@@ -1,61 +1,81 @@
-use Rattle.std.proofs.Common.{◌≡◌, ◌<◌, ◌≤◌, length, set, sym, refl, ap, ◌∙◌, subst, rules}
+use Rattle.std.proofs.Common.{◌≡◌, true, false, nat_lt, length, get_or, Some, sym, refl, ap, ◌∙◌, rules}
 use Rattle.std.proofs.lemmas.List.{get_or_read}
 use Rattle.std.specs.Ordering.{is_le, is_lt}
 use Rattle.table.specs.Held.{held}
-use Rattle.table.specs.Order.{Ascending, Strict}
-use Rattle.table.proofs.Exact.{full_exactly, let_in_exactly, replaced_exactly}
-use Rattle.table.proofs.Orderly.{ascending_from_strict, ascending_insert_in, order_set, parted_insert, parted_strict}
-use Rattle.table.proofs.Totals.{total}
+use Rattle.table.specs.Order.{at_key}
+use Rattle.table.proofs.Exact.{there, nowhere}
+use Rattle.table.proofs.Placing.{parted}
+use Rattle.table.proofs.Orderly.{ascending_from_strict, ascending_in, order_set, strict_in}
+use Rattle.table.proofs.Seeking.{apart, own_before, total}
 use Rattle.table.proofs.ordered.Table.replace.Goals as goal
 
-pub returns-in-Ok : goal.returns-in-Ok
-returns-in-Ok g c =
+-- one with the key
+pub returns-in-Ok-clause-exact : goal.returns-in-Ok-clause-exact
+returns-in-Ok-clause-exact g c = λ s.
     let row = g.R.Row in
-    let o = total g.R.Row.compare row.flip row.trans row.alike in
     let x = c.args.row in
+    let xs = held c.args.self.now in
     let i = c.in-Ok.i in
-    let xs = held c.args.self.now in
-    let h = c.in-Ok.ensures in
-    let old = c.replace.result in
-    let is = c.replace.ensures.value ∙ get_or_read xs i c.index_mut.result.now h.0 c.index_mut.ensures.value old in
-    let rows : set xs i c.replace.new.dest ≡ set xs i x = ap (set xs i) c.replace.ensures.after in
-    let tie = row.keyed _ x (h.1 x) in
-    let same = ap g.R.Row.key is ∙ h.1 old in
-    record {
-      does = (i, h.0, is, same, record { rows = rows; limit = refl; came = refl });
-      exact = λ s. replaced_exactly o g.R.Row.key row.keyed c.args.self.now _ x s i old h.0 is same rows;
-      ascending = λ a. subst (Ascending g.R.Row.compare) (sym rows) (order_set o is_le x x i xs h.0 tie a);
-      strict = λ a. subst (Strict g.R.Row.compare) (sym rows) (order_set o is_lt x x i xs h.0 tie a);
-    }
+    let within = c.in-Ok.ensures.0 in
+    let tie = row.keyed (get_or xs i x) x (c.in-Ok.ensures.1 x) in
+    let n = there row.compare x xs i x within tie (own_before row x xs s i x within tie) in
+    let old = get_or_read xs i c.index_mut.result.now within c.index_mut.ensures.value x in
+    let hit : at_key row.compare x xs ≡ Some c.replace.result = n.0 ∙ ap Some (sym (c.replace.ensures.value ∙ old)) in
+    record { answer = rw hit refl; rows = rw c.replace.ensures.after (sym n.1) }
 
-pub returns-else-len-self : goal.returns-else-len-self
-returns-else-len-self g c =
+pub returns-in-Ok-clause-ascending : goal.returns-in-Ok-clause-ascending
+returns-in-Ok-clause-ascending g c =
     let row = g.R.Row in
-    let o = total g.R.Row.compare row.flip row.trans row.alike in
     let x = c.args.row in
-    let i = c.in-Err.i in
     let xs = held c.args.self.now in
-    let h = c.in-Err.ensures in
-    let rows = c.put.ensures.rows in
-    let room : length xs < c.args.self.now.limit = search rules in
-    let let-in = λ (a : Ascending g.R.Row.compare xs). rows ∙ parted_insert o x xs i (h.1 a).0 in
-    record {
-      does = (room, (i, h.0, record { rows = rows; limit = c.put.ensures.limit; came = c.put.ensures.came }), λ a. ((h.1 a).1, let-in a));
-      exact = λ s. let_in_exactly o g.R.Row.key row.keyed c.args.self.now c.put.new.self x s i h room rows;
-      ascending = λ a. subst (Ascending g.R.Row.compare) (sym (let-in a)) (ascending_insert_in o x xs a);
-      strict = λ a. subst (Strict g.R.Row.compare) (sym rows) (parted_strict o x xs i (h.1 (ascending_from_strict g.R.Row.compare xs a)).0 a);
-    }
+    let tie = row.keyed (get_or xs c.in-Ok.i x) x (c.in-Ok.ensures.1 x) in
+    rw c.replace.ensures.after (order_set (total row) x is_le x c.in-Ok.i xs c.in-Ok.ensures.0 tie)
 
-pub returns-then-len-self : goal.returns-then-len-self
-returns-then-len-self g c =
+pub returns-in-Ok-clause-strict : goal.returns-in-Ok-clause-strict
+returns-in-Ok-clause-strict g c =
     let row = g.R.Row in
-    let o = total g.R.Row.compare row.flip row.trans row.alike in
+    let x = c.args.row in
+    let xs = held c.args.self.now in
+    let tie = row.keyed (get_or xs c.in-Ok.i x) x (c.in-Ok.ensures.1 x) in
+    rw c.replace.ensures.after (order_set (total row) x is_lt x c.in-Ok.i xs c.in-Ok.ensures.0 tie)
+
+-- none, and no room
+pub returns-then-is_full-clause-exact : goal.returns-then-is_full-clause-exact
+returns-then-is_full-clause-exact g c = λ s.
+    let row = g.R.Row in
     let t = c.args.self.now in
+    let h = c.in-Err.ensures.1 (ascending_from_strict row.compare (held t) s) in
+    let n = nowhere row.compare c.args.row (held t) (apart row c.args.row (held t) h.1) in
+    let full : nat_lt (length (held t)) t.limit ≡ false = search rules in
+    record { answer = rw (n.0, full) refl; rows = refl }
+
+-- none, and room
+pub returns-else-is_full-clause-does : goal.returns-else-is_full-clause-does
+returns-else-is_full-clause-does g c =
     let h = c.in-Err.ensures in
-    let full : t.limit ≤ length (held t) = search rules in
-    record {
-      does = (refl, full, record { rows = refl; limit = refl; came = refl }, λ a. (h.1 a).1);
-      exact = λ s. full_exactly o g.R.Row.key row.keyed t t c.args.row s c.in-Err.i h full refl;
-      ascending = λ a. a;
-      strict = λ a. a;
-    }
+    (search rules, (c.in-Err.i, h.0, c.put.ensures), λ a. ((h.1 a).1, c.put.ensures.rows ∙ parted g.R.Row.compare c.args.row (held c.args.self.now) c.in-Err.i h.0 (h.1 a).0))
+
+pub returns-else-is_full-clause-exact : goal.returns-else-is_full-clause-exact
+returns-else-is_full-clause-exact g c = λ s.
+    let row = g.R.Row in
+    let x = c.args.row in
+    let t = c.args.self.now in
+    let h = c.in-Err.ensures.1 (ascending_from_strict row.compare (held t) s) in
+    let n = nowhere row.compare x (held t) (apart row x (held t) h.1) in
+    let room : nat_lt (length (held t)) t.limit ≡ true = search rules in
+    record { answer = rw (n.0, room) refl; rows = c.put.ensures.rows ∙ parted row.compare x (held t) c.in-Err.i c.in-Err.ensures.0 h.0 ∙ sym n.1 }
+
+pub returns-else-is_full-clause-ascending : goal.returns-else-is_full-clause-ascending
+returns-else-is_full-clause-ascending g c = λ a.
+    let row = g.R.Row in
+    let x = c.args.row in
+    let xs = held c.args.self.now in
+    rw (c.put.ensures.rows, parted row.compare x xs c.in-Err.i c.in-Err.ensures.0 (c.in-Err.ensures.1 a).0) (ascending_in (total row) x xs a)
+
+pub returns-else-is_full-clause-strict : goal.returns-else-is_full-clause-strict
+returns-else-is_full-clause-strict g c = λ s.
+    let row = g.R.Row in
+    let x = c.args.row in
+    let xs = held c.args.self.now in
+    let h = c.in-Err.ensures.1 (ascending_from_strict row.compare xs s) in
+    rw (c.put.ensures.rows, parted row.compare x xs c.in-Err.i c.in-Err.ensures.0 h.0) (strict_in (total row) x xs (apart row x xs h.1) s)
