@@ -4,18 +4,14 @@ use table::{Table, firsts};
 use text::name::Name;
 
 fn name(bytes: &[u8]) -> Result<Name, Fail> {
-    match Name::new(bytes) {
-        Ok(name) => Ok(name),
-        Err(_) => Err(Fail::new("no name")),
-    }
+    Name::new(bytes).map_err(|_| Fail::new("no name"))
 }
 
 // Whether the name at a place has these bytes.
 fn is_at(table: &Table<Name>, place: usize, bytes: &[u8]) -> bool {
-    match table.get(place) {
-        Some(name) => name.as_bytes() == bytes,
-        None => false,
-    }
+    table
+        .get(place)
+        .is_some_and(|name| name.as_bytes() == bytes)
 }
 
 // Three names fill a table; the fourth is given back and the three stand as they stood.
@@ -58,23 +54,20 @@ fn the_first_stay(rt: HostRuntime) -> Result<(), Fail> {
     let mut table = firsts(rt.alloc(), 3, &rows)?;
     assert!(rt; table.came() == 6 && table.len() == 3);
     for (place, note) in [(0, 2), (1, 4), (2, 1)] {
-        match table.get(place) {
-            Some(row) => assert!(rt; row.note == note),
-            None => return Err(Fail::new("no row")),
-        }
+        assert!(rt; table.get(place).is_some_and(|row| row.note == note));
     }
     assert!(rt;
         table.find(&Scale { weight: 2, tag: 9 }) == Some(2)
             && table.find(&Scale { weight: 2, tag: 0 }) == None
     );
-    match table.keep_first(weighed(1, 0, 6)) {
-        Some(row) => assert!(rt; row.note == 1),
-        None => return Err(Fail::new("nothing was given back")),
-    }
-    match table.replace(weighed(1, 0, 7)) {
-        Ok(Some(old)) => assert!(rt; old.note == 6),
-        _ => return Err(Fail::new("nothing was replaced")),
-    }
+    let Some(last) = table.keep_first(weighed(1, 0, 6)) else {
+        return Err(Fail::new("nothing was given back"));
+    };
+    assert!(rt; last.note == 1);
+    let Ok(Some(old)) = table.replace(weighed(1, 0, 7)) else {
+        return Err(Fail::new("nothing was replaced"));
+    };
+    assert!(rt; old.note == 6);
     assert!(rt; table.is_full() && table.came() == 7);
     Ok(())
 }

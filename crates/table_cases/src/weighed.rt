@@ -6,8 +6,8 @@ pub struct Weighed {
     pub note: u8,
 }
 
-// The key of such a row, without a note.
-#[derive(Clone, Copy)]
+// The key of such a row, without a note: the order of its fields is the order of the rows.
+#[derive(Clone, Copy, PartialEq, Eq, PartialOrd, Ord)]
 pub struct Scale {
     pub weight: u16,
     pub tag: u8,

@@ -1,4 +1,4 @@
-ghost use Rattle.std.specs.Prelude.{ℕ, nat_eq};
+ghost use Rattle.std.specs.Prelude.{◌≡◌, ℕ, nat_eq};
 ghost use Rattle.std.specs.Cmp.Rules.{comparing};
 ghost use Rattle.std.specs.Ordering.{as_partial_cmp, eq_of_both, on};
 ghost use Rattle.std.proofs.Common.{rules};
@@ -9,13 +9,25 @@ use crate::weighed::{Scale, Weighed};
 use std::cmp::Ordering;
 use table::{Probe, Row};
 
+impl Weighed {
+    fn scale(&self) -> Scale
+        ensures { (result.weight ≡ self.now.weight) × (result.tag ≡ self.now.tag) }
+    {
+        Scale {
+            weight: self.weight,
+            tag: self.tag,
+        }
+    }
+}
+
+// Rows are compared by their keys. A derive would compare the notes too.
 impl PartialEq for Weighed {
     ghost eq = { eq_of_both (on (λ v. v.weight) nat_eq) (on (λ v. v.tag) nat_eq) };
 
     ghost laws = { Prim.search (comparing, rules) };
 
     fn eq(&self, other: &Weighed) -> bool {
-        self.weight == other.weight && self.tag == other.tag
+        self.scale() == other.scale()
     }
 }
 
@@ -43,10 +55,7 @@ impl Ord for Weighed {
     ghost matches_eq = { Prim.search (comparing, rules) };
 
     fn cmp(&self, other: &Weighed) -> Ordering {
-        match self.weight.cmp(&other.weight) {
-            Ordering::Equal => self.tag.cmp(&other.tag),
-            unequal => unequal,
-        }
+        self.scale().cmp(&other.scale())
     }
 }
 
@@ -78,9 +87,6 @@ impl Probe<Weighed> for Scale {
     ghost one = { Prim.search rules };
 
     fn compared(&self, row: &Weighed) -> Ordering {
-        match row.weight.cmp(&self.weight) {
-            Ordering::Equal => row.tag.cmp(&self.tag),
-            unequal => unequal,
-        }
+        row.scale().cmp(self)
     }
 }
