@@ -6,7 +6,8 @@ use Rattle.std.proofs.lemmas.List.Quantifiers.{all_pairs_remove}
 use Rattle.std.specs.List.{remove, All, AllByRecursion, AllPairs}
 use Rattle.std.specs.Cmp.{IsTotalOrder, alike_right, upto}
 use Rattle.std.specs.Ordering.{is_le, is_lt}
-use Rattle.table.specs.Order.{InOrder, Ascending, Strict, insert_in}
+use Rattle.table.specs.declared.rows.Row.{Ghosts}
+use Rattle.table.specs.Order.{Absent, InOrder, Ascending, Strict, insert_in}
 
 module _ {X : Type 0} (t : X → X → Bool) where
   -- rows in order pass the test two by two, and the other way round
@@ -53,27 +54,41 @@ module _ {X : Type 0} (c : X → X → Ordering) (t : X → X → Bool) (x : X) 
         | false ↦ λ e. ((passes y e, recursion_from_All (λ z. t x z ≡ true) ys (λ k d l. chains y (get_or ys k d) (passes y e) (All-from_recursion (λ z. t y z ≡ true) ys o.0 k d l))), o)
       ] refl
 
-module _ {X : Type 0} {R : X → X → Ordering} (o : IsTotalOrder R) (x : X) where
-  less : (y : X) → is_le (R y x) ≡ false → R x y ≡ Less
-  less y h = let e = o.antisymm x y in grind arith
+-- a row's order is total, from what each `impl` of `Row` proves
+pub total : {X : Type 0} (row : Ghosts X) → IsTotalOrder row.compare
+total row = record { antisymm = row.flip; trans = row.trans; congr = row.alike }
 
-  pub ascending_in : (xs : List X) → Ascending R xs → Ascending R (insert_in R x xs)
-  ascending_in xs a = order_in R (λ y z. is_le (R y z)) x (λ y h. ap is_le (less y h)) (λ y z h k. grind (arith, upto o x y z)) xs (λ k d l e. e) a
+module _ {X : Type 0} (row : Ghosts X) (x : X) where
+  less : (y : X) → is_le (row.compare y x) ≡ false → row.compare x y ≡ Less
+  less y h = let e = row.flip x y in grind arith
 
-  pub ascending_cut : (n : ℕ) (xs : List X) → Ascending R xs → Ascending R (take n (insert_in R x xs))
+  pub ascending_in : (xs : List X) → Ascending row.compare xs → Ascending row.compare (insert_in row.compare x xs)
+  ascending_in xs a =
+      order_in row.compare (λ y z. is_le (row.compare y z)) x (λ y h. ap is_le (less y h)) (λ y z h k. grind (arith, upto (total row) x y z)) xs (λ k d l e. e) a
+
+  pub ascending_cut : (n : ℕ) (xs : List X) → Ascending row.compare xs → Ascending row.compare (take n (insert_in row.compare x xs))
   ascending_cut n xs a =
-      let ys = insert_in R x xs in order_front (λ y z. is_le (R y z)) ys (take n ys) (drop n ys) (sym (take-append-drop n ys)) (ascending_in xs a)
+      let ys = insert_in row.compare x xs in
+      order_front (λ y z. is_le (row.compare y z)) ys (take n ys) (drop n ys) (sym (take-append-drop n ys)) (ascending_in xs a)
 
-  pub strict_in : (xs : List X) → All (λ y. R y x ≢ Equal) xs → Strict R xs → Strict R (insert_in R x xs)
+  -- where no row has the key of x, none ties with it
+  pub apart : (xs : List X) → Absent row.key xs x → All (λ y. row.compare y x ≢ Equal) xs
+  apart xs n k d l e = n k d l (row.ties (get_or xs k d) x e)
+
+  pub strict_in : (xs : List X) → Absent row.key xs x → Strict row.compare xs → Strict row.compare (insert_in row.compare x xs)
   strict_in xs n s =
-      order_in R (λ y z. is_lt (R y z)) x (λ y h. ap is_lt (less y h)) (λ y z h k. grind (arith, o.trans x y z)) xs (λ k d l e. let m = n k d l in grind arith) s
+      order_in row.compare (λ y z. is_lt (row.compare y z)) x (λ y h. ap is_lt (less y h)) (λ y z h k. grind (arith, row.trans x y z)) xs
+      (λ k d l e. let m = apart xs n k d l in grind arith) s
 
   -- a row that ties with the one at i takes its place
-  pub order_set : (f : Ordering → Bool) (d : X) (i : ℕ) (xs : List X) → i < length xs → R (get_or xs i d) x ≡ Equal → InOrder (λ y z. f (R y z)) xs → InOrder (λ y z. f (R y z)) (set xs i x)
-  order_set f d i [] l e a = absurd (omega arith)
-  order_set f d zero (y ∷ ys) l e a =
-      (recursion_from_All (λ z. f (R x z) ≡ true) ys (λ k d l. ap f (sym (o.congr y x (get_or ys k d) e)) ∙ All-from_recursion (λ z. f (R y z) ≡ true) ys a.0 k d l), a.1)
-  order_set f d (suc i) (y ∷ ys) l e a =
-      let each = All-from_recursion (λ z. f (R y z) ≡ true) ys a.0 in
-      let here = ap f (sym (alike_right o (get_or ys i d) x y e)) ∙ each i d (omega arith) in
-      (recursion_from_All (λ z. f (R y z) ≡ true) (set ys i x) (All-set (λ z. f (R y z) ≡ true) ys i x here each), order_set f d i ys (omega arith) e a.1)
+  order_set : (f : Ordering → Bool) (i : ℕ) (d : X) (xs : List X) → i < length xs → row.compare (get_or xs i d) x ≡ Equal → InOrder (λ y z. f (row.compare y z)) xs → InOrder (λ y z. f (row.compare y z)) (set xs i x)
+  order_set f i d [] l e a = absurd (omega arith)
+  order_set f zero d (y ∷ ys) l e a =
+      (recursion_from_All (λ z. f (row.compare x z) ≡ true) ys (λ k d l. ap f (sym (row.alike y x (get_or ys k d) e)) ∙ All-from_recursion (λ z. f (row.compare y z) ≡ true) ys a.0 k d l), a.1)
+  order_set f (suc i) d (y ∷ ys) l e a =
+      let each = All-from_recursion (λ z. f (row.compare y z) ≡ true) ys a.0 in
+      let here = ap f (sym (alike_right (total row) (get_or ys i d) x y e)) ∙ each i d (omega arith) in
+      (recursion_from_All (λ z. f (row.compare y z) ≡ true) (set ys i x) (All-set (λ z. f (row.compare y z) ≡ true) ys i x here each), order_set f i d ys (omega arith) e a.1)
+
+  pub order_put : (f : Ordering → Bool) (i : ℕ) (xs : List X) → (i < length xs) × ((d : X) → row.key (get_or xs i d) ≡ row.key x) → InOrder (λ y z. f (row.compare y z)) xs → InOrder (λ y z. f (row.compare y z)) (set xs i x)
+  order_put f i xs h = order_set f i x xs h.0 (row.keyed (get_or xs i x) x (h.1 x))

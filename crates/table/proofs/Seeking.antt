@@ -2,15 +2,15 @@
 use Rattle.std.proofs.Common.{◌≡◌, ◌≢◌, ℕ, zero, suc, ◌+◌, ◌<◌, ◌≤◌, true, List, [], ◌∷◌, length, get_or, Some, None, Ok, Err, Option, Result, Ordering, Less, Equal, Greater, sym, refl, ap, ◌∙◌, ⊎_elim, arith}
 use Rattle.std.proofs.lemmas.Bool.{cases_lt}
 use Rattle.std.proofs.lemmas.List.Sorted.{IsNonDecreasingBy-from_all_adjacent}
-use Rattle.std.specs.Cmp.{IsTotalOrder, alike_right}
+use Rattle.std.specs.Cmp.{alike_right}
 use Rattle.std.specs.Ordering.{is_le, is_lt, ordering_index}
 use Rattle.std.specs.List.{All}
 use Rattle.std.specs.List.Sorted.{IsBinarySearchResult, IsNonDecreasingBy, IsPartitionPoint, IsSearchInRange}
 use Rattle.std.specs.Result.{result_ok}
 use Rattle.table.specs.Calls.{Finds, Found, Searched}
-use Rattle.table.specs.Order.{Absent, Ascending, Strict, seek}
+use Rattle.table.specs.Order.{Ascending, Strict, seek}
 use Rattle.table.specs.declared.rows.Row.{Ghosts}
-use Rattle.table.proofs.Orderly.{ascending_from_strict, pairs}
+use Rattle.table.proofs.Orderly.{apart, ascending_from_strict, pairs, total}
 
 module _ {X : Type 0} (stands : X → Ordering) where
   none_at : (xs : List X) (i : ℕ) → IsPartitionPoint (λ y. stands y ≡ Less) (λ y. stands y ≡ Greater) xs i → All (λ y. stands y ≢ Equal) xs
@@ -57,20 +57,12 @@ module _ {X : Type 0} (c : X → X → Ordering) (stands : X → Ordering) (rise
 
 -- ---- a row stands for its own key
 
--- a row's order is total, from what each `impl` of `Row` proves
-pub total : {X : Type 0} (row : Ghosts X) → IsTotalOrder row.compare
-total row = record { antisymm = row.flip; trans = row.trans; congr = row.alike }
-
 module _ {X : Type 0} (row : Ghosts X) (x : X) where
   own_rises : (y z : X) → is_le (row.compare y z) ≡ true → ordering_index (row.compare y x) ≤ ordering_index (row.compare z x)
   own_rises y z h = grind (arith, row.trans y z x, row.alike y z x, alike_right (total row) z x y)
 
   own_one : (y z : X) → row.compare y x ≡ Equal → row.compare z x ≡ Equal → row.compare y z ≡ Equal
   own_one y z p q = alike_right (total row) z x y q ∙ p
-
-  -- where no row has the key of x, none ties with it
-  pub apart : (xs : List X) → Absent row.key xs x → All (λ y. row.compare y x ≢ Equal) xs
-  apart xs n k d l e = n k d l (row.ties (get_or xs k d) x e)
 
   pub own_before : (xs : List X) → Strict row.compare xs → (i : ℕ) (d : X) → i < length xs → row.compare (get_or xs i d) x ≡ Equal → (j : ℕ) → j < i → row.compare (get_or xs j d) x ≡ Less
   own_before = before row.compare (λ y. row.compare y x) own_rises own_one
@@ -82,4 +74,4 @@ module _ {X : Type 0} (row : Ghosts X) (x : X) where
 
   pub own_exact : (xs : List X) (r : Option ℕ) → Found row.compare row.key xs x r → Strict row.compare xs → r ≡ seek (λ y. row.compare y x) 0 xs
   own_exact xs (Some i) h = found_exact row.compare (λ y. row.compare y x) own_rises own_one xs (Some i) (h.0, λ d. row.keyed (get_or xs i d) x (h.1 d))
-  own_exact xs None h = found_exact row.compare (λ y. row.compare y x) own_rises own_one xs None (λ a. apart xs (h a))
+  own_exact xs None h = found_exact row.compare (λ y. row.compare y x) own_rises own_one xs None (λ a. apart row x xs (h a))

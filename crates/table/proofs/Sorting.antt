@@ -3,12 +3,13 @@ use Rattle.std.proofs.Common.{◌≡◌, suc, Bool, true, false, cond, List, [],
 use Rattle.std.proofs.lemmas.List.Elements.{All-cons, All-from_recursion, filter-append}
 use Rattle.std.proofs.lemmas.List.{append_assoc, append-nil}
 use Rattle.std.proofs.lemmas.List.Sorted.{IsPermutation-append_left, IsPermutation-insert, IsPermutation-refl, IsPermutation-to_front, IsPermutation-trans}
-use Rattle.std.specs.Cmp.{IsTotalOrder, alike_right, upto}
+use Rattle.std.specs.Cmp.{alike_right, upto}
 use Rattle.std.specs.Ordering.{is_eq, is_gt, is_le}
 use Rattle.std.specs.List.Sorted.{IsPermutation}
 use Rattle.std.specs.List.{All, position_or_len}
+use Rattle.table.specs.declared.rows.Row.{Ghosts}
 use Rattle.table.specs.Order.{Ascending, Sorts, insert_in, laid, sorted}
-use Rattle.table.proofs.Orderly.{ascending_in}
+use Rattle.table.proofs.Orderly.{ascending_in, total}
 use Rattle.table.proofs.Placing.{placed}
 
 -- ---- the same rows
@@ -28,40 +29,40 @@ none_pass : {X : Type 0} (p : X → Bool) (xs : List X) → All (λ y. p y ≡ f
 none_pass p [] h = refl
 none_pass p (x ∷ xs) h = let e = h 0 x (omega arith) in grind (arith, none_pass p xs (λ k d l. h (suc k) d (omega arith)))
 
-module _ {X : Type 0} {R : X → X → Ordering} (o : IsTotalOrder R) where
-  ascending_laid : (xs ys : List X) → Ascending R xs → Ascending R (laid R xs ys)
+module _ {X : Type 0} (row : Ghosts X) where
+  ascending_laid : (xs ys : List X) → Ascending row.compare xs → Ascending row.compare (laid row.compare xs ys)
   ascending_laid xs [] a = a
-  ascending_laid xs (y ∷ ys) a = ascending_laid (insert_in R y xs) ys (ascending_in o y xs a)
+  ascending_laid xs (y ∷ ys) a = ascending_laid (insert_in row.compare y xs) ys (ascending_in row y xs a)
 
   -- ---- the rows that tie with w, as they came
   module _ (w : X) where
     abbrev with_w : X → Bool
-    with_w y = is_eq (R y w)
+    with_w y = is_eq (row.compare y w)
 
     -- x comes before greater rows: if it ties with w, none of them does
-    passes : (x : X) (ys : List X) → All (λ y. is_le (R y x) ≡ false) ys → filter with_w (x ∷ ys) ≡ filter with_w ys ++ filter with_w (x ∷ [])
+    passes : (x : X) (ys : List X) → All (λ y. is_le (row.compare y x) ≡ false) ys → filter with_w (x ∷ ys) ≡ filter with_w ys ++ filter with_w (x ∷ [])
     passes x ys g =
-        elim (R x w) as (λ r. R x w ≡ r → cond (is_eq r) (x ∷ filter with_w ys) (filter with_w ys) ≡ filter with_w ys ++ cond (is_eq r) (x ∷ []) []) [
+        elim (row.compare x w) as (λ r. row.compare x w ≡ r → cond (is_eq r) (x ∷ filter with_w ys) (filter with_w ys) ≡ filter with_w ys ++ cond (is_eq r) (x ∷ []) []) [
           | Less ↦ λ e. sym (append-nil (filter with_w ys))
-          | Equal ↦ λ e. rw (none_pass with_w ys (λ k d l. let h = g k d l in let t = alike_right o x w (get_or ys k d) e in grind arith)) refl
+          | Equal ↦ λ e. rw (none_pass with_w ys (λ k d l. let h = g k d l in let t = alike_right (total row) x w (get_or ys k d) e in grind arith)) refl
           | Greater ↦ λ e. sym (append-nil (filter with_w ys))
         ] refl
 
-    stable_in : (x : X) (xs : List X) → Ascending R xs → filter with_w (insert_in R x xs) ≡ filter with_w xs ++ filter with_w (x ∷ [])
+    stable_in : (x : X) (xs : List X) → Ascending row.compare xs → filter with_w (insert_in row.compare x xs) ≡ filter with_w xs ++ filter with_w (x ∷ [])
     stable_in x [] a = refl
     stable_in x (y ∷ ys) a =
-        elim (is_le (R y x)) as (λ b. is_le (R y x) ≡ b → filter with_w (cond b (y ∷ insert_in R x ys) (x ∷ y ∷ ys)) ≡ filter with_w (y ∷ ys) ++ filter with_w (x ∷ [])) [
+        elim (is_le (row.compare y x)) as (λ b. is_le (row.compare y x) ≡ b → filter with_w (cond b (y ∷ insert_in row.compare x ys) (x ∷ y ∷ ys)) ≡ filter with_w (y ∷ ys) ++ filter with_w (x ∷ [])) [
           | true ↦ λ e. let r = stable_in x ys a.1 in grind arith
-          | false ↦ λ e. passes x (y ∷ ys) (All-cons (λ z. is_le (R z x) ≡ false) y ys e (λ k d l. let h = All-from_recursion (λ z. is_le (R y z) ≡ true) ys a.0 k d l in grind (arith, upto o y (get_or ys k d) x)))
+          | false ↦ λ e. passes x (y ∷ ys) (All-cons (λ z. is_le (row.compare z x) ≡ false) y ys e (λ k d l. let h = All-from_recursion (λ z. is_le (row.compare y z) ≡ true) ys a.0 k d l in grind (arith, upto (total row) y (get_or ys k d) x)))
         ] refl
 
-    stable_laid : (xs ys : List X) → Ascending R xs → filter with_w (laid R xs ys) ≡ filter with_w xs ++ filter with_w ys
+    stable_laid : (xs ys : List X) → Ascending row.compare xs → filter with_w (laid row.compare xs ys) ≡ filter with_w xs ++ filter with_w ys
     stable_laid xs [] a = sym (append-nil (filter with_w xs))
     stable_laid xs (y ∷ ys) a =
-        stable_laid (insert_in R y xs) ys (ascending_in o y xs a)
+        stable_laid (insert_in row.compare y xs) ys (ascending_in row y xs a)
         ∙ ap (λ ks. ks ++ filter with_w ys) (stable_in y xs a)
         ∙ append_assoc (filter with_w xs) (filter with_w (y ∷ [])) (filter with_w ys)
         ∙ ap (λ ks. filter with_w xs ++ ks) (sym (filter-append with_w (y ∷ []) ys))
 
-  pub sorted_sorts : (xs : List X) → Sorts R xs (sorted R xs)
-  sorted_sorts xs = record { ordered = ascending_laid [] xs tt; shuffled = same_laid R [] xs; stable = λ w. stable_laid w [] xs tt }
+  pub sorted_sorts : (xs : List X) → Sorts row.compare xs (sorted row.compare xs)
+  sorted_sorts xs = record { ordered = ascending_laid [] xs tt; shuffled = same_laid row.compare [] xs; stable = λ w. stable_laid w [] xs tt }
