@@ -6,7 +6,7 @@ ghost use Rattle.table.specs.Held.{held};
 ghost use Rattle.table.specs.Order.{Absent, Ascending, InOrder, Strict, insert_in};
 
 use crate::ordered::Table;
-use crate::rows::{Row, after};
+use crate::rows::Row;
 use std::mem::replace;
 
 impl<R> Table<R> {
@@ -57,7 +57,7 @@ impl<R: Row> Table<R> {
     {
         self.rows
             .iter()
-            .position(|other| after(other, row))
+            .position(|other| other.cmp(row).is_gt())
             .unwrap_or(self.rows.len())
     }
 

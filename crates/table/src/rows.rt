@@ -1,4 +1,4 @@
-ghost use Rattle.std.specs.Ordering.{is_gt, ordering_reverse};
+ghost use Rattle.std.specs.Ordering.{ordering_reverse};
 ghost use Rattle.std.specs.Prelude.{◌≡◌};
 ghost use Rattle.std.specs.declared.cmp.Ordering.TheVariants.{Less, Equal};
 ghost use Rattle.std.specs.declared.cmp.Ordering.{Ordering};
@@ -26,11 +26,4 @@ pub trait Row: Ord {
     ghost ties: { (x y : Self) → compare x y ≡ Equal → key x ≡ key y };
 
     ghost keyed: { (x y : Self) → key x ≡ key y → compare x y ≡ Equal };
-}
-
-// Whether `a` stands after `b`.
-pub(crate) fn after<R: Row>(a: &R, b: &R) -> bool
-    ensures { result ≡ is_gt (R.compare a.now b.now) }
-{
-    a.cmp(b).is_gt()
 }

@@ -11,10 +11,3 @@ loop-row-preserved g c =
       limit = c.keep_first.ensures.does.limit ∙ c.loop-row.invariant.limit;
       first = λ all k. rw (append_assoc all (take i rows) (x ∷ []), c.row-item.is, ← take_more rows i x c.loop-row-test.true) at (c.keep_first.ensures.first (all ++ take i rows) (c.loop-row.invariant.first all k));
     }
-
-pub returns : goal.returns
-returns g c =
-    record {
-      limit = c.loop-row.invariant.limit;
-      first = λ all k. rw (take_all c.loop-row.row-index c.args.rows.now c.loop-row-test.false) at (c.loop-row.invariant.first all k);
-    }

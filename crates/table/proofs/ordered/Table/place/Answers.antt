@@ -12,6 +12,6 @@ returns-clause-there g c =
     let compare = g.R.Row.compare in
     let x = c.args.row.now in
     let xs = held c.args.self.now in
-    let first = position_from_yields_List (λ y. is_gt (compare y x)) _ _ c.position.result c.position.ensures.ran (YieldsList-from_slice xs cc) (λ y b f k. search (rules, tests)) in
+    let first = position_from_yields_List (λ y. is_gt (compare y x)) _ _ c.position.result c.position.ensures.ran (YieldsList-from_slice xs cc) (λ y b f k. search (rules, tests, g.met.R.Row.says)) in
     let there = placed_at compare x xs c.position.result first in
     search rules
