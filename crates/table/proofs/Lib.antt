@@ -4,4 +4,3 @@ pub mod Orderly
 pub mod Placing
 pub mod Seeking
 pub mod Sorting
-pub mod Tested

@@ -1,6 +1,5 @@
 ghost use Rattle.std.specs.Prelude.{ℕ, List};
 ghost use Rattle.text.specs.Names.{name_bytes, name_order};
-ghost use Rattle.std.specs.Cmp.Lexicographic.{on_texts};
 ghost use Rattle.text.proofs.Ordered.{names_in_order};
 
 use crate::rows::Row;
@@ -16,11 +15,11 @@ impl Row for Name {
 
     ghost says = { λ x y r h. h };
 
-    ghost flip = { (on_texts name_bytes).antisymm };
+    ghost flip = { names_in_order.total.antisymm };
 
-    ghost trans = { (on_texts name_bytes).trans };
+    ghost trans = { names_in_order.total.trans };
 
-    ghost alike = { (on_texts name_bytes).congr };
+    ghost alike = { names_in_order.total.congr };
 
     ghost ties = { names_in_order.ties };
 

@@ -1,8 +1,6 @@
-ghost use Rattle.std.specs.Ordering.{is_lt};
 ghost use Rattle.table.specs.Held.{held};
-ghost use Rattle.table.specs.Order.{in_order};
+ghost use Rattle.table.specs.Order.{Strict, Strict-prop};
 ghost use Rattle.text.specs.Names.{name_order};
-ghost use Rattle.std.specs.Prelude.{◌≡◌, true};
 
 use table::Table;
 use text::name::Name;
@@ -11,5 +9,5 @@ use text::name::Name;
 #[derive(Drop)]
 pub struct Roll {
     pub(crate) names: Table<Name>,
-    ghost strict: { in_order (λ a b. is_lt (name_order a b)) (held names) ≡ true },
+    ghost strict: { Strict name_order (held names) } by { Strict-prop name_order (held names) },
 }

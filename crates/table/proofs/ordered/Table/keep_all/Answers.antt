@@ -1,5 +1,5 @@
 use Rattle.std.proofs.Common.{[], ◌∷◌, ◌++◌, take, ◌∙◌}
-use Rattle.std.proofs.lemmas.List.{append_assoc, take_all, take_more}
+use Rattle.std.proofs.lemmas.List.{append_assoc, take_more}
 use Rattle.table.proofs.ordered.Table.keep_all.Goals as goal
 
 pub loop-row-preserved : goal.loop-row-preserved
