@@ -22,11 +22,6 @@ module _ {X : Type 0} (t : X → X → Bool) where
   order_by (x ∷ xs) p =
       (recursion_from_All (λ y. t x y ≡ true) xs (λ j d l. p 0 (suc j) d (omega arith) (omega arith)), order_by xs (λ i j d h l. p (suc i) (suc j) d (omega arith) (omega arith)))
 
-  pub order_weaker : (u : X → X → Bool) → ((x y : X) → t x y ≡ true → u x y ≡ true) → (xs : List X) → InOrder t xs → InOrder u xs
-  order_weaker u w [] o = tt
-  order_weaker u w (x ∷ xs) o =
-      (recursion_from_All (λ y. u x y ≡ true) xs (λ k d l. w x (get_or xs k d) (All-from_recursion (λ y. t x y ≡ true) xs o.0 k d l)), order_weaker u w xs o.1)
-
   pub order_removed : (i : ℕ) (xs : List X) → i < length xs → InOrder t xs → InOrder t (remove xs i)
   order_removed i xs l o = order_by (remove xs i) (all_pairs_remove (λ x y. t x y ≡ true) xs i l (pairs xs o))
 
@@ -38,9 +33,9 @@ module _ {X : Type 0} (t : X → X → Bool) where
       rw (get_or_append_left ys zs d i (omega arith), get_or_append_left ys zs d j l) at both)
 
 pub ascending_from_strict : {X : Type 0} (c : X → X → Ordering) (xs : List X) → Strict c xs → Ascending c xs
-ascending_from_strict c xs o = order_weaker (λ x y. is_lt (c x y)) (λ x y. is_le (c x y)) (λ x y h. grind arith) xs o
+ascending_from_strict c xs s = order_by (λ x y. is_le (c x y)) xs (λ i j d h l. let e = pairs (λ x y. is_lt (c x y)) xs s i j d h l in grind arith)
 
--- ---- a row that is let in: it passes the test with the first row that is greater, and so with the later ones
+-- ---- a row x that is let in: it passes the test with the first row that is greater, and so with the later ones
 module _ {X : Type 0} (c : X → X → Ordering) (t : X → X → Bool) (x : X) (passes : (y : X) → is_le (c y x) ≡ false → t x y ≡ true) (chains : (y z : X) → t x y ≡ true → t y z ≡ true → t x z ≡ true) where
   all_in : (P : X → Type 0) (xs : List X) → P x → AllByRecursion P xs → AllByRecursion P (insert_in c x xs)
   all_in P [] p h = (p, tt)

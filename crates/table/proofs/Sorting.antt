@@ -1,5 +1,5 @@
 -- That letting rows in one by one sorts them, and that rows that tie stay as they came.
-use Rattle.std.proofs.Common.{◌≡◌, suc, Bool, true, false, cond, List, [], ◌∷◌, ◌++◌, get_or, filter, Ordering, Less, Equal, Greater, sym, refl, ap, ◌∙◌, subst, arith}
+use Rattle.std.proofs.Common.{◌≡◌, suc, Bool, true, false, cond, List, [], ◌∷◌, ◌++◌, get_or, filter, Ordering, sym, refl, ap, ◌∙◌, subst, arith}
 use Rattle.std.proofs.lemmas.List.Elements.{All-cons, All-from_recursion, filter-append}
 use Rattle.std.proofs.lemmas.List.{append_assoc, append-nil}
 use Rattle.std.proofs.lemmas.List.Sorted.{IsPermutation-append_left, IsPermutation-insert, IsPermutation-refl, IsPermutation-to_front, IsPermutation-trans}
@@ -42,10 +42,9 @@ module _ {X : Type 0} (row : Ghosts X) where
     -- x comes before greater rows: if it ties with w, none of them does
     passes : (x : X) (ys : List X) → All (λ y. is_le (row.compare y x) ≡ false) ys → filter with_w (x ∷ ys) ≡ filter with_w ys ++ filter with_w (x ∷ [])
     passes x ys g =
-        elim (row.compare x w) as (λ r. row.compare x w ≡ r → cond (is_eq r) (x ∷ filter with_w ys) (filter with_w ys) ≡ filter with_w ys ++ cond (is_eq r) (x ∷ []) []) [
-          | Less ↦ λ e. sym (append-nil (filter with_w ys))
-          | Equal ↦ λ e. rw (none_pass with_w ys (λ k d l. let h = g k d l in let t = alike_right (total row) x w (get_or ys k d) e in grind arith)) refl
-          | Greater ↦ λ e. sym (append-nil (filter with_w ys))
+        elim (with_w x) as (λ b. with_w x ≡ b → cond b (x ∷ filter with_w ys) (filter with_w ys) ≡ filter with_w ys ++ cond b (x ∷ []) []) [
+          | true ↦ λ e. rw (none_pass with_w ys (λ k d l. let h = g k d l in grind (arith, alike_right (total row) x w (get_or ys k d)))) refl
+          | false ↦ λ e. sym (append-nil (filter with_w ys))
         ] refl
 
     stable_in : (x : X) (xs : List X) → Ascending row.compare xs → filter with_w (insert_in row.compare x xs) ≡ filter with_w xs ++ filter with_w (x ∷ [])
