@@ -35,7 +35,7 @@ module _ {X : Type 0} (t : X → X → Bool) where
 pub ascending_from_strict : {X : Type 0} (c : X → X → Ordering) (xs : List X) → Strict c xs → Ascending c xs
 ascending_from_strict c xs s = order_by (λ x y. is_le (c x y)) xs (λ i j d h l. let e = pairs (λ x y. is_lt (c x y)) xs s i j d h l in grind arith)
 
--- ---- a row x that is let in: it passes the test with the first row that is greater, and so with the later ones
+-- ---- a row x that is let in passes the test with the first row that is greater, and so with the rest
 module _ {X : Type 0} (c : X → X → Ordering) (t : X → X → Bool) (x : X) (passes : (y : X) → is_le (c y x) ≡ false → t x y ≡ true) (chains : (y z : X) → t x y ≡ true → t y z ≡ true → t x z ≡ true) where
   all_in : (P : X → Type 0) (xs : List X) → P x → AllByRecursion P xs → AllByRecursion P (insert_in c x xs)
   all_in P [] p h = (p, tt)

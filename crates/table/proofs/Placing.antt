@@ -1,4 +1,4 @@
--- Where a row is let in: before the first row that is greater, which is also where a search among rows in order ends.
+-- Where a row is let in: before the first that is greater. A search among rows in order ends there.
 use Rattle.std.proofs.Common.{◌≡◌, ℕ, suc, ◌+◌, ◌≤◌, cond, not, List, [], ◌∷◌, length, Ordering, Less, Equal, Greater, Option, unwrap_or, sym, refl, ap, ◌∙◌, arith}
 use Rattle.std.proofs.lemmas.Bool.Decides.{nat_tests}
 use Rattle.std.proofs.lemmas.List.Sums.{position_or_len_is, prefix_len-le-length}

@@ -24,7 +24,7 @@ Ascending c xs = InOrder (λ x y. is_le (c x y)) xs
 abbrev pub Strict : {X : Type 0} → (X → X → Ordering) → List X → Type 0
 Strict c xs = InOrder (λ x y. is_lt (c x y)) xs
 
--- Such a fact has one proof at most, so that a ghost field of a struct that holds a table may state it.
+-- Such a fact has one proof at most: a ghost field of a struct that holds a table may state it.
 pub InOrder-prop : {X : Type 0} (t : X → X → Bool) (xs : List X) → IsProp (InOrder t xs)
 InOrder-prop t [] = Unit-prop
 InOrder-prop t (x ∷ xs) = ×_prop (AllByRecursion-prop (λ y. t x y ≡ true) (λ y. Bool-set (t x y) true) xs) (InOrder-prop t xs)
