@@ -4,3 +4,4 @@ pub mod Orderly
 pub mod Placing
 pub mod Seeking
 pub mod Sorting
+pub mod Tested

@@ -4,33 +4,28 @@
 --     insert_in c x xs     x let in among xs: after the rows that are not greater, before the rest
 --     laid c xs new        the rows of new let in among xs, one after another
 --     sorted c xs          the whole list in order; rows that tie keep the order in which they came (`Sorts` says so)
-use Rattle.std.specs.Prelude.{◌≡◌, ℕ, ◌+◌, ◌<◌, Bool, true, cond, List, [], ◌∷◌, length, Some, None, filter, Option, ◌≢◌, slice_index_or}
+use Rattle.std.specs.Prelude.{◌≡◌, ℕ, ◌+◌, ◌<◌, Bool, true, cond, ◌&&◌, List, [], ◌∷◌, length, Some, None, filter, Option, ◌≢◌, slice_index_or}
 use Rattle.std.specs.declared.cmp.Ordering.TheVariants.{Less, Equal, Greater}
 use Rattle.std.specs.declared.cmp.Ordering.{Ordering}
 use Rattle.std.specs.Ordering.{is_eq, is_le, is_lt}
 use Rattle.std.specs.List.Sorted.{IsPermutation}
-use Rattle.std.specs.List.{AllByRecursion, AllByRecursion-prop}
-use Rattle.std.specs.Coded.{×_prop, Unit-prop}
-use Rattle.std.proofs.Math.Bool.{Bool-set}
+use Rattle.std.specs.List.{list_all, AllByRecursion}
 
 -- each row passes the test with every later one
 abbrev pub InOrder : {X : Type 0} → (X → X → Bool) → List X → Type 0
 InOrder t [] = Unit {0}
 InOrder t (x ∷ xs) = AllByRecursion (λ y. t x y ≡ true) xs × InOrder t xs
 
+-- the same as a test
+abbrev pub in_order : {X : Type 0} → (X → X → Bool) → List X → Bool
+in_order t [] = true
+in_order t (x ∷ xs) = list_all (t x) xs && in_order t xs
+
 abbrev pub Ascending : {X : Type 0} → (X → X → Ordering) → List X → Type 0
 Ascending c xs = InOrder (λ x y. is_le (c x y)) xs
 
 abbrev pub Strict : {X : Type 0} → (X → X → Ordering) → List X → Type 0
 Strict c xs = InOrder (λ x y. is_lt (c x y)) xs
-
--- Such a fact has one proof at most: a ghost field of a struct that holds a table may state it.
-pub InOrder-prop : {X : Type 0} (t : X → X → Bool) (xs : List X) → IsProp (InOrder t xs)
-InOrder-prop t [] = Unit-prop
-InOrder-prop t (x ∷ xs) = ×_prop (AllByRecursion-prop (λ y. t x y ≡ true) (λ y. Bool-set (t x y) true) xs) (InOrder-prop t xs)
-
-pub Strict-prop : {X : Type 0} (c : X → X → Ordering) (xs : List X) → IsProp (Strict c xs)
-Strict-prop c xs = InOrder-prop (λ x y. is_lt (c x y)) xs
 
 abbrev pub insert_in : {X : Type 0} → (X → X → Ordering) → X → List X → List X
 insert_in c x [] = x ∷ []

@@ -1,5 +1,6 @@
 ghost use Rattle.table.specs.Held.{held};
-ghost use Rattle.table.specs.Order.{Strict, Strict-prop};
+ghost use Rattle.table.proofs.Tested.{strict_prop};
+ghost use Rattle.table.specs.Order.{Strict};
 ghost use Rattle.text.specs.Names.{name_order};
 
 use table::Table;
@@ -9,5 +10,5 @@ use text::name::Name;
 #[derive(Drop)]
 pub struct Roll {
     pub(crate) names: Table<Name>,
-    ghost strict: { Strict name_order (held names) } by { Strict-prop name_order (held names) },
+    ghost strict: { Strict name_order (held names) } by { strict_prop name_order (held names) },
 }
