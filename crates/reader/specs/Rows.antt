@@ -1,7 +1,5 @@
 -- How the reader holds what stands open, and what its inner functions promise one another. Assumes nothing.
 use Rattle.std.specs.Prelude.{◌≡◌, ℕ, zero, suc, ◌+◌, ◌-◌, ◌<◌, ◌≤◌, ◌⊎◌, List, [], ◌∷◌, length, drop, Some, None, Ok, Err, Result, slice_index_or}
-use Rattle.std.specs.List.{AllByRecursion}
-use Rattle.text.specs.Lines.{breaks}
 use Rattle.text.specs.declared.part.Part.{Part}
 use Rattle.record.specs.declared.command.Command.{Command}
 use Rattle.record.specs.declared.command.Container.{Container}
@@ -29,22 +27,12 @@ rows_of (suc depth) nests = slice_index_or nests depth unused ∷ rows_of depth 
 abbrev pub standing : Reader → Standing
 standing r = record { rows = rows_of r.depth r.nests; body = r.body }
 
--- What the reader keeps true from command to command. No row counts more commands than were taken, and each command takes a byte at least, so no count can overflow.
-pub record Sound (r : Reader) : Type 0 where
-  pub depth : r.depth ≤ 16
-  pub size : length r.nests ≡ 16
-  pub counts : AllByRecursion (λ (n : Nest). n.commands ≤ r.taken) r.nests
-  pub body : r.body ≤ r.taken
-  pub taken : r.taken + length r.rest.now ≤ length r.bytes.now
-  pub lines : r.lines ≡ breaks r.source.now + 1
-
--- the reader took a command: so much is left, and the reader is sound again
+-- the reader took a command: so much is left
 pub record Moved (r r' : Reader) (left : List ℕ) : Type 0 where
   pub source : r'.source.now ≡ r.source.now
   pub bytes : r'.bytes.now ≡ r.bytes.now
   pub rest : r'.rest.now ≡ left
   pub taken : r'.taken ≡ r.taken + 1
-  pub sound : Sound r'
 
 -- what asking a command about its place answers, and what then stands
 abbrev pub Admitted : Reader → Reader → List Entry → Command → List ℕ → Result (Unit {0}) Reason → Type 0
@@ -93,4 +81,3 @@ pub record Fresh (text bytes : List ℕ) (r : Reader) : Type 0 where
   pub depth : r.depth ≡ 0
   pub body : r.body ≡ 0
   pub taken : r.taken ≡ 0
-  pub sound : Sound r

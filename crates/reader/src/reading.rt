@@ -3,7 +3,7 @@ ghost use Rattle.std.specs.Prelude.{◌≡◌, ◌+◌, ◌<◌, ◌≤◌, leng
 ghost use Rattle.reader.specs.Questions.{Checked, declared, in_container, may_open, stands};
 ghost use Rattle.reader.specs.Reading.{after, counted, entry};
 ghost use Rattle.record.specs.declared.command.Command.TheVariants.{Close};
-ghost use Rattle.reader.specs.Rows.{Admitted, Finished, Fresh, Moved, Next, Opened, Sound, Stepped, position, standing};
+ghost use Rattle.reader.specs.Rows.{Admitted, Finished, Fresh, Moved, Next, Opened, Stepped, position, standing};
 
 use crate::commands::command;
 use crate::nest::{Nest, Stands};
@@ -54,7 +54,6 @@ fn may_open(stands: Stands, kind: Container) -> bool
 impl<'a> Reader<'a> {
     // What stands open.
     fn stands(&self) -> Stands
-        requires { Sound self.now }
         ensures { result ≡ stands self.now.taken (standing self.now).rows }
     {
         if self.depth == 0 {
@@ -70,7 +69,6 @@ impl<'a> Reader<'a> {
 
     // The command with the container that it stands directly in.
     fn here(&self, command: Command) -> Entry
-        requires { Sound self.now }
         ensures { result ≡ entry (standing self.now) command }
     {
         if self.depth == 0 {
@@ -91,7 +89,6 @@ impl<'a> Reader<'a> {
 
     // A command is taken: one more stands in the innermost container, or in the body, and `rest` is left of the record.
     fn count(&mut self, rest: &'a [u8])
-        requires sound { Sound self.old }
         requires shorter { length rest.now < length self.old.rest.now }
         ensures stands { standing self.new ≡ counted (standing self.old).rows (standing self.old).body }
         ensures depth { self.new.depth ≡ self.old.depth }
@@ -115,7 +112,6 @@ impl<'a> Reader<'a> {
         rest: &'a [u8],
         before: &[Entry],
     ) -> Result<(), Reason>
-        requires sound { Sound self.old }
         requires shorter { length rest.now < length self.old.rest.now }
         requires taken { self.old.taken ≡ length before.now }
         ensures { Opened self.old self.new before.now kind name rest.now result }
@@ -139,7 +135,6 @@ impl<'a> Reader<'a> {
 
     // Closes the innermost container.
     fn close(&mut self, rest: &'a [u8])
-        requires sound { Sound self.old }
         requires shorter { length rest.now < length self.old.rest.now }
         requires some { 0 < self.old.depth }
         ensures stands { standing self.new ≡ after 0 (counted (standing self.old).rows (standing self.old).body) Close }
@@ -151,7 +146,6 @@ impl<'a> Reader<'a> {
 
     // Asks whether the command may stand here, and takes it: what it opens is opened, what it closes is closed.
     fn admit(&mut self, command: Command, rest: &'a [u8], before: &[Entry]) -> Result<(), Reason>
-        requires sound { Sound self.old }
         requires shorter { length rest.now < length self.old.rest.now }
         requires taken { self.old.taken ≡ length before.now }
         ensures { Admitted self.old self.new before.now command rest.now result }
@@ -187,7 +181,6 @@ impl<'a> Reader<'a> {
 
     // Asks of the operands: whether the part is text inside the source, and whether the span is lawful.
     fn check(&self, command: Command) -> Result<(), Reason>
-        requires sound { Sound self.now }
         ensures { Checked self.now.source.now command result }
     {
         if let Some(part) = command.part() {
@@ -203,7 +196,6 @@ impl<'a> Reader<'a> {
 
     // The next command, or why it is refused; then the reader stands where it stood.
     fn step(&mut self, before: &[Entry]) -> Result<Entry, Reason>
-        requires sound { Sound self.old }
         requires taken { self.old.taken ≡ length before.now }
         ensures { Stepped self.old self.new before.now self.old.rest.now result }
     {
@@ -226,7 +218,6 @@ impl<'a> Reader<'a> {
 
     // How far the reader has come, in bytes.
     fn position(&self) -> usize
-        requires { Sound self.now }
         ensures { result ≡ position self.now }
     {
         self.bytes.len() - self.rest.len()
@@ -234,7 +225,6 @@ impl<'a> Reader<'a> {
 
     // The next command, or the fault with its place.
     pub(crate) fn next(&mut self, before: &[Entry]) -> Result<Entry, RecordFault>
-        requires sound { Sound self.old }
         requires taken { self.old.taken ≡ length before.now }
         ensures { Next self.old self.new before.now result }
     {
@@ -249,7 +239,6 @@ impl<'a> Reader<'a> {
 
     // After Z: it is to be the last byte, and nothing open.
     pub(crate) fn finish(&self) -> Result<(), RecordFault>
-        requires { Sound self.now }
         ensures { Finished self.now result }
     {
         if self.depth > 0 || self.rest.len() > 0 {

@@ -1,4 +1,8 @@
 // The reader's state.
+ghost use Rattle.std.specs.Prelude.{◌≡◌, ◌+◌, ◌≤◌, All, length};
+ghost use Rattle.text.specs.Lines.{breaks};
+ghost use Rattle.reader.specs.declared.nest.Nest.{Nest};
+
 use crate::nest::Nest;
 
 // A record that is being read over its source.
@@ -16,4 +20,11 @@ pub struct Reader<'a> {
     // how many commands stand directly in the body, and how many were taken in all
     pub(crate) body: usize,
     pub(crate) taken: usize,
+    ghost all_lines: { lines ≡ breaks source.now + 1 },
+    ghost room: { depth ≤ 16 },
+    // No row counts more commands than were taken, nor does the body, and each command takes a byte
+    // at least: so no count can overflow.
+    ghost nests_within: { All (λ (n : Nest). n.commands ≤ taken) nests },
+    ghost body_within: { body ≤ taken },
+    ghost taken_within: { taken + length rest.now ≤ length bytes.now },
 }
