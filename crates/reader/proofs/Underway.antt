@@ -72,7 +72,6 @@ ended_early es (n ∷ rows) at bs h = refl
 pub record Underway (source bytes : List ℕ) (es : List Entry) (r : Reader) : Type 0 where
   pub text : r.source.now ≡ source
   pub whole : r.bytes.now ≡ bytes
-  pub taken : r.taken ≡ length es
   pub gives : read_from source es (standing r) (position r) 0 r.rest.now ≡ read source bytes
 
 pub underway_fresh : (source bytes : List ℕ) (es : List Entry) (r : Reader) → es ≡ [] → Fresh source bytes r → Underway source bytes es r
@@ -82,7 +81,6 @@ underway_fresh source bytes es r none f =
     record {
       text = f.source;
       whole = f.whole;
-      taken = f.taken ∙ sym (ap length none);
       gives = λ i. read_from source (none i) (stands i) (start i) 0 (f.rest i);
     }
 
@@ -103,7 +101,7 @@ module _ (source bytes : List ℕ) (es : List Entry) (r r' : Reader) (u : Underw
 
   -- where the reader stands after a command of w bytes of operands
   moved_on : (b : ℕ) (bs : List ℕ) (w : ℕ) → r.rest.now ≡ b ∷ bs → Moved r r' (drop w bs) → w ≤ length bs → position r' ≡ position r + 1 + w
-  moved_on b bs w is m h = omega (arith, ap length is, ap length m.bytes, ap length m.rest, length-drop w bs, r.taken_within)
+  moved_on b bs w is m h = omega (arith, ap length is, ap length m.bytes, ap length m.rest, length-drop w bs, r.part)
 
   pub underway_more : (e : Entry) (es' : List Entry) → Next r r' es (Ok e) → is_end e.command ≡ false → es' ≡ es ++ e ∷ [] → Underway source bytes es' r'
   underway_more e es' h not_end pushed = go r.rest.now refl h
@@ -117,7 +115,6 @@ module _ (source bytes : List ℕ) (es : List Entry) (r r' : Reader) (u : Underw
           record {
             text = t.3.source ∙ u.text;
             whole = t.3.bytes ∙ u.whole;
-            taken = t.3.taken ∙ omega (arith, u.taken, ap length pushed, length_push es e);
             gives = (λ i. read_from source ((pushed ∙ ap (λ (x : Entry). es ++ x ∷ []) t.1) i) (t.2 i) (at i) 0 (t.3.rest i)) ∙ sym more ∙ from_rest (b ∷ bs) is;
           }
 

@@ -1,5 +1,6 @@
 -- What is asked of each command, in its order. Assumes nothing.
 use Rattle.std.specs.Prelude.{◌≡◌, ℕ, Bool, true, false, cond, ◌||◌, List, [], ◌∷◌, length, Some, None, Ok, Err, Option, Result, ◌==◌, nat_lt}
+use Rattle.std.specs.List.{list_any}
 use Rattle.text.specs.Spans.{lawful_in}
 use Rattle.text.specs.Texts.{part_bytes, part_fault}
 use Rattle.text.specs.declared.fault.TextFault.{TextFault}
@@ -64,8 +65,7 @@ allowed s End = true
 
 -- does one of the commands open a container of that kind and name?
 abbrev pub declared : List ℕ → Container → List ℕ → List Entry → Bool
-declared source kind name [] = false
-declared source kind name (e ∷ before) = opens_named source kind name (opens e.command) || declared source kind name before
+declared source kind name before = list_any (λ (e : Entry). opens_named source kind name (opens e.command)) before
 
 -- ---- the questions, each with the reason to refuse, if there is one
 

@@ -32,7 +32,6 @@ pub record Moved (r r' : Reader) (left : List ℕ) : Type 0 where
   pub source : r'.source.now ≡ r.source.now
   pub bytes : r'.bytes.now ≡ r.bytes.now
   pub rest : r'.rest.now ≡ left
-  pub taken : r'.taken ≡ r.taken + 1
 
 -- what asking a command about its place answers, and what then stands
 abbrev pub Admitted : Reader → Reader → List Entry → Command → List ℕ → Result (Unit {0}) Reason → Type 0
@@ -80,4 +79,3 @@ pub record Fresh (text bytes : List ℕ) (r : Reader) : Type 0 where
   pub rest : r.rest.now ≡ bytes
   pub depth : r.depth ≡ 0
   pub body : r.body ≡ 0
-  pub taken : r.taken ≡ 0

@@ -1,5 +1,5 @@
 // How a record is read, command by command.
-ghost use Rattle.std.specs.Prelude.{◌≡◌, ◌+◌, ◌<◌, ◌≤◌, length};
+ghost use Rattle.std.specs.Prelude.{◌≡◌, ◌+◌, ◌<◌, ◌≤◌, length, slice_get};
 ghost use Rattle.reader.specs.Questions.{Checked, declared, in_container, may_open, stands};
 ghost use Rattle.reader.specs.Reading.{after, counted, entry};
 ghost use Rattle.record.specs.declared.command.Command.TheVariants.{Close};
@@ -21,12 +21,9 @@ const DEEPEST: usize = 16;
 fn declared(source: &[u8], kind: Container, name: &[u8], before: &[Entry]) -> bool
     ensures { result ≡ declared source.now kind name.now before.now }
 {
-    for entry in before {
-        if entry.command.opens(source, kind, name) {
-            return true;
-        }
-    }
-    false
+    before
+        .iter()
+        .any(|entry| entry.command.opens(source, kind, name))
 }
 
 fn within(innermost: Container) -> Stands
@@ -52,18 +49,21 @@ fn may_open(stands: Stands, kind: Container) -> bool
 }
 
 impl<'a> Reader<'a> {
-    // What stands open.
-    fn stands(&self) -> Stands
-        ensures { result ≡ stands self.now.taken (standing self.now).rows }
+    // The innermost of the open containers.
+    fn innermost(&self) -> Option<Nest>
+        ensures { result ≡ slice_get (standing self.now).rows 0 }
     {
-        if self.depth == 0 {
-            if self.taken == 0 {
-                Stands::First
-            } else {
-                Stands::Outside
-            }
-        } else {
-            within(self.nests[self.depth - 1].container)
+        self.nests[..self.depth].last().copied()
+    }
+
+    // What stands open, behind the commands that were read before.
+    fn stands(&self, before: &[Entry]) -> Stands
+        ensures { result ≡ stands (length before.now) (standing self.now).rows }
+    {
+        match self.innermost() {
+            Some(nest) => within(nest.container),
+            None if before.is_empty() => Stands::First,
+            None => Stands::Outside,
         }
     }
 
@@ -71,19 +71,14 @@ impl<'a> Reader<'a> {
     fn here(&self, command: Command) -> Entry
         ensures { result ≡ entry (standing self.now) command }
     {
-        if self.depth == 0 {
-            Entry {
-                command,
-                owner: Owner::Body,
-                place: self.body,
-            }
-        } else {
-            let nest = self.nests[self.depth - 1];
-            Entry {
-                command,
-                owner: Owner::Container(nest.opener),
-                place: nest.commands,
-            }
+        let (owner, place) = match self.innermost() {
+            Some(nest) => (Owner::Container(nest.opener), nest.commands),
+            None => (Owner::Body, self.body),
+        };
+        Entry {
+            command,
+            owner,
+            place,
         }
     }
 
@@ -95,12 +90,13 @@ impl<'a> Reader<'a> {
         ensures moved { Moved self.old self.new rest.now }
     {
         self.rest = rest;
-        self.taken += 1;
-        if self.depth == 0 {
-            self.body += 1;
-        } else {
-            let inner = self.depth - 1;
-            self.nests[inner].commands += 1;
+        match self.depth.checked_sub(1) {
+            Some(inner) => {
+                self.nests[inner].commands += 1;
+            }
+            None => {
+                self.body += 1;
+            }
         }
     }
 
@@ -113,7 +109,6 @@ impl<'a> Reader<'a> {
         before: &[Entry],
     ) -> Result<(), Reason>
         requires shorter { length rest.now < length self.old.rest.now }
-        requires taken { self.old.taken ≡ length before.now }
         ensures { Opened self.old self.new before.now kind name rest.now result }
     {
         if declared(self.source, kind, name.bytes(self.source), before) {
@@ -122,11 +117,10 @@ impl<'a> Reader<'a> {
         if self.depth >= DEEPEST {
             return Err(Reason::TooDeep);
         }
-        let opener = self.taken;
         self.count(rest);
         self.nests[self.depth] = Nest {
             container: kind,
-            opener,
+            opener: before.len(),
             commands: 0,
         };
         self.depth += 1;
@@ -147,10 +141,9 @@ impl<'a> Reader<'a> {
     // Asks whether the command may stand here, and takes it: what it opens is opened, what it closes is closed.
     fn admit(&mut self, command: Command, rest: &'a [u8], before: &[Entry]) -> Result<(), Reason>
         requires shorter { length rest.now < length self.old.rest.now }
-        requires taken { self.old.taken ≡ length before.now }
         ensures { Admitted self.old self.new before.now command rest.now result }
     {
-        match (command, self.stands()) {
+        match (command, self.stands(before)) {
             (Command::Extends(_), Stands::First) => {
                 self.count(rest);
                 Ok(())
@@ -163,11 +156,7 @@ impl<'a> Reader<'a> {
                 }
                 self.open(kind, name, rest, before)
             }
-            (Command::Close, Stands::InBlock) => {
-                self.close(rest);
-                Ok(())
-            }
-            (Command::Close, Stands::InComponent) => {
+            (Command::Close, Stands::InBlock | Stands::InComponent) => {
                 self.close(rest);
                 Ok(())
             }
@@ -196,7 +185,6 @@ impl<'a> Reader<'a> {
 
     // The next command, or why it is refused; then the reader stands where it stood.
     fn step(&mut self, before: &[Entry]) -> Result<Entry, Reason>
-        requires taken { self.old.taken ≡ length before.now }
         ensures { Stepped self.old self.new before.now self.old.rest.now result }
     {
         let [byte, after @ ..] = self.rest else {
@@ -225,16 +213,11 @@ impl<'a> Reader<'a> {
 
     // The next command, or the fault with its place.
     pub(crate) fn next(&mut self, before: &[Entry]) -> Result<Entry, RecordFault>
-        requires taken { self.old.taken ≡ length before.now }
         ensures { Next self.old self.new before.now result }
     {
-        match self.step(before) {
-            Ok(entry) => Ok(entry),
-            Err(reason) => {
-                let at = self.position();
-                Err(RecordFault { reason, at })
-            }
-        }
+        let at = self.position();
+        self.step(before)
+            .map_err(|reason| RecordFault { reason, at })
     }
 
     // After Z: it is to be the last byte, and nothing open.
@@ -267,7 +250,6 @@ impl<'a> Reader<'a> {
             nests: [unused; 16],
             depth: 0,
             body: 0,
-            taken: 0,
         }
     }
 }

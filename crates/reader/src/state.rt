@@ -17,14 +17,13 @@ pub struct Reader<'a> {
     // the first `depth` rows are the open containers, the innermost last
     pub(crate) nests: [Nest; 16],
     pub(crate) depth: usize,
-    // how many commands stand directly in the body, and how many were taken in all
+    // how many commands stand directly in the body
     pub(crate) body: usize,
-    pub(crate) taken: usize,
     ghost all_lines: { lines ≡ breaks source.now + 1 },
     ghost room: { depth ≤ 16 },
-    // No row counts more commands than were taken, nor does the body, and each command takes a byte
-    // at least: so no count can overflow.
-    ghost nests_within: { All (λ (n : Nest). n.commands ≤ taken) nests },
-    ghost body_within: { body ≤ taken },
-    ghost taken_within: { taken + length rest.now ≤ length bytes.now },
+    // Each command takes a byte at least, so what is read of the record bounds every count, and no
+    // count can overflow.
+    ghost part: { length rest.now ≤ length bytes.now },
+    ghost body_within: { body + length rest.now ≤ length bytes.now },
+    ghost nests_within: { All (λ (n : Nest). n.commands + length rest.now ≤ length bytes.now) nests },
 }
