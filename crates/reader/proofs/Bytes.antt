@@ -1,6 +1,7 @@
 -- A command written and read again, and the other way round. Assumes nothing.
 use Rattle.std.proofs.Common.{◌≡◌, ℕ, zero, suc, ◌+◌, ◌*◌, ◌/◌, ◌%◌, ◌<◌, ◌≤◌, List, [], ◌∷◌, ◌++◌, length, get_or, take, drop, sym, refl, ap, ◌∙◌, arith}
-use Rattle.std.proofs.lemmas.List.{append-nil, drop_more}
+use Rattle.std.proofs.lemmas.List.{append-nil, drop_more, get_or-drop}
+use Rattle.std.specs.Simd.{first_chunks}
 use Rattle.text.specs.declared.part.Part.{Part}
 use Rattle.text.specs.declared.span.Span.{Span}
 use Rattle.record.specs.declared.command.Command.{Command}
@@ -79,6 +80,18 @@ pairs (suc k) i bs = two (number bs i) ++ pairs k (i + 2) bs
 abbrev twice : ℕ → ℕ
 twice zero = 0
 twice (suc k) = suc (suc (twice k))
+
+-- number k of the pairs that the bytes are cut into
+pub pair_number : (k n : ℕ) (bs : List ℕ) → k < n → number (get_or (first_chunks 2 n bs) k []) 0 ≡ number bs (2 * k)
+pair_number k zero bs h = absurd (omega arith)
+pair_number zero (suc n) [] h = refl
+pair_number zero (suc n) (x ∷ []) h = refl
+pair_number zero (suc n) (x ∷ y ∷ bs) h = refl
+pair_number (suc k) (suc n) bs h =
+    let on : 2 + (2 * k + 1) ≡ 2 + 2 * k + 1 = omega arith in
+    pair_number k n (drop 2 bs) (omega arith)
+    ∙ (λ i. get_or-drop 2 bs (2 * k) 0 i * 256 + (get_or-drop 2 bs (2 * k + 1) 0 ∙ ap (λ (j : ℕ). get_or bs j 0) on) i)
+    ∙ ap (number bs) (omega arith)
 
 pairs_back : (k i : ℕ) (bs : List ℕ) → Bytes bs → i + twice k ≤ length bs → pairs k i bs ≡ take (twice k) (drop i bs)
 pairs_back zero i bs h l = refl

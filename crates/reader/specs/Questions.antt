@@ -1,5 +1,5 @@
 -- What is asked of each command, in its order. Assumes nothing.
-use Rattle.std.specs.Prelude.{◌≡◌, ℕ, Bool, true, false, cond, ◌||◌, List, [], ◌∷◌, length, Some, None, Ok, Err, Option, Result, ◌==◌, nat_lt}
+use Rattle.std.specs.Prelude.{◌≡◌, ℕ, Bool, true, false, cond, List, [], ◌∷◌, length, Some, None, Ok, Err, Option, Result, ◌==◌, nat_lt}
 use Rattle.std.specs.List.{list_any}
 use Rattle.text.specs.Spans.{lawful_in}
 use Rattle.text.specs.Texts.{part_bytes, part_fault}

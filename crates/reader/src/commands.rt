@@ -9,10 +9,11 @@ use text::column::StoredColumn;
 use text::part::Part;
 use text::span::Span;
 
-fn two(high: u8, low: u8) -> u32
-    ensures { result ≡ high * 256 + low }
+// The number of two bytes, highest byte first.
+fn number(bytes: [u8; 2]) -> u32
+    ensures { result ≡ number bytes 0 }
 {
-    u32::from(high) * 256 + u32::from(low)
+    u32::from(u16::from_be_bytes(bytes))
 }
 
 // A name operand, and what follows it.
@@ -25,7 +26,7 @@ fn name_operand(operands: &[u8]) -> (Part, &[u8])
         unreachable!()
     };
     let name = Part {
-        start: two(*high, *low),
+        start: number([*high, *low]),
         len: u32::from(*length),
     };
     (name, rest)
@@ -39,29 +40,25 @@ fn text_operand(operands: &[u8]) -> Part
         unreachable!()
     };
     Part {
-        start: two(*high, *low),
-        len: two(*length_high, *length_low),
+        start: number([*high, *low]),
+        len: number([*length_high, *length_low]),
     }
-}
-
-fn number(bytes: &[u8], i: usize) -> u32
-    requires { i + 2 ≤ length bytes.now }
-    ensures { result ≡ number bytes.now i }
-{
-    two(bytes[i], bytes[i + 1])
 }
 
 fn span_operand(operands: &[u8]) -> Span
     requires { 12 ≤ length operands.now }
     ensures { result ≡ span_operand operands.now }
 {
+    let ([start_line, start_col, end_line, end_col, from, to, ..], _) = operands.as_chunks() else {
+        unreachable!()
+    };
     Span {
-        start_line: number(operands, 0),
-        start_col: StoredColumn(number(operands, 2)),
-        end_line: number(operands, 4),
-        end_col: StoredColumn(number(operands, 6)),
-        from: number(operands, 8),
-        to: number(operands, 10),
+        start_line: number(*start_line),
+        start_col: StoredColumn(number(*start_col)),
+        end_line: number(*end_line),
+        end_col: StoredColumn(number(*end_col)),
+        from: number(*from),
+        to: number(*to),
     }
 }
 

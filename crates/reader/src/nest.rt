@@ -1,4 +1,7 @@
 // What the reader keeps of the containers that stand open.
+ghost use Rattle.std.specs.Prelude.{◌≡◌};
+ghost use Rattle.reader.specs.Questions.{in_container};
+
 use record::command::Container;
 
 // An open container: what it is, the place of its opener in the list of commands, and how many commands stand directly in it so far.
@@ -16,4 +19,15 @@ pub enum Stands {
     Outside,
     InBlock,
     InComponent,
+}
+
+impl From<Container> for Stands {
+    ghost from_gives = { λ innermost stands. stands ≡ in_container innermost };
+
+    fn from(innermost: Container) -> Stands {
+        match innermost {
+            Container::Block => Stands::InBlock,
+            Container::Component => Stands::InComponent,
+        }
+    }
 }

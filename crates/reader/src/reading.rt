@@ -1,6 +1,6 @@
 // How a record is read, command by command.
 ghost use Rattle.std.specs.Prelude.{◌≡◌, ◌+◌, ◌<◌, ◌≤◌, length, slice_get};
-ghost use Rattle.reader.specs.Questions.{Checked, declared, in_container, may_open, stands};
+ghost use Rattle.reader.specs.Questions.{Checked, declared, may_open, stands};
 ghost use Rattle.reader.specs.Reading.{after, counted, entry};
 ghost use Rattle.record.specs.declared.command.Command.TheVariants.{Close};
 ghost use Rattle.reader.specs.Rows.{Admitted, Finished, Fresh, Moved, Next, Opened, Stepped, position, standing};
@@ -26,22 +26,12 @@ fn declared(source: &[u8], kind: Container, name: &[u8], before: &[Entry]) -> bo
         .any(|entry| entry.command.opens(source, kind, name))
 }
 
-fn within(innermost: Container) -> Stands
-    ensures { result ≡ in_container innermost }
-{
-    match innermost {
-        Container::Block => Stands::InBlock,
-        Container::Component => Stands::InComponent,
-    }
-}
-
 // A component stands only where nothing is open, a block anywhere but in a component.
 fn may_open(stands: Stands, kind: Container) -> bool
     ensures { result ≡ may_open stands kind }
 {
     match (stands, kind) {
-        (Stands::First, _) => true,
-        (Stands::Outside, _) => true,
+        (Stands::First | Stands::Outside, _) => true,
         (Stands::InBlock, Container::Block) => true,
         (Stands::InBlock, Container::Component) => false,
         (Stands::InComponent, _) => false,
@@ -61,7 +51,7 @@ impl<'a> Reader<'a> {
         ensures { result ≡ stands (length before.now) (standing self.now).rows }
     {
         match self.innermost() {
-            Some(nest) => within(nest.container),
+            Some(nest) => Stands::from(nest.container),
             None if before.is_empty() => Stands::First,
             None => Stands::Outside,
         }
@@ -224,7 +214,7 @@ impl<'a> Reader<'a> {
     pub(crate) fn finish(&self) -> Result<(), RecordFault>
         ensures { Finished self.now result }
     {
-        if self.depth > 0 || self.rest.len() > 0 {
+        if self.depth > 0 || !self.rest.is_empty() {
             let at = self.position();
             return Err(RecordFault {
                 reason: Reason::Unfinished,

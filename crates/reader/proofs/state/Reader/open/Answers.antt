@@ -1,4 +1,4 @@
-use Rattle.std.proofs.Common.{ℕ, length, List, sym, refl, ap, ◌∙◌, arith}
+use Rattle.std.proofs.Common.{ℕ, length, List, sym, ap, ◌∙◌, arith}
 use Rattle.reader.specs.declared.nest.Nest.{Nest}
 use Rattle.reader.specs.Questions.{declared}
 use Rattle.reader.specs.Reading.{pushed}
