@@ -1,6 +1,9 @@
 -- One command read. Assumes nothing.
-use Rattle.std.proofs.Common.{◌≡◌, ℕ, ◌+◌, ◌≤◌, List, ◌∷◌, length, drop, Some, None, Ok, Err, Option, Result, sym, refl, ap, ◌∙◌, subst, arith}
+use Rattle.std.proofs.Common.{◌≡◌, ℕ, ◌+◌, ◌<◌, ◌≤◌, List, ◌∷◌, length, get_or, drop, Some, None, Ok, Err, Option, Result, sym, refl, ap, ◌∙◌, subst, arith}
+use Rattle.std.specs.List.{between}
 use Rattle.std.specs.Option.{option_map}
+use Rattle.std.proofs.lemmas.List.{take_rest}
+use Rattle.std.proofs.lemmas.Slice.{first_rest}
 use Rattle.std.proofs.lemmas.Bool.{cond-false, le-ltb}
 use Rattle.record.specs.declared.command.Command.{Command}
 use Rattle.record.specs.declared.command.Entry.{Entry}
@@ -8,7 +11,6 @@ use Rattle.record.specs.declared.fault.Reason.{Reason}
 use Rattle.record.specs.declared.letter.Layout.{Layout}
 use Rattle.record.specs.declared.letter.Letter.{Letter}
 use Rattle.record.specs.declared.letter.Letter.TheVariants.{Extends, Block, PlainBlock, Component, Refer, Variable, Text, Close, End}
-use Rattle.reader.specs.declared.nest.Nest.{Nest}
 use Rattle.reader.specs.declared.state.Reader.{Reader}
 use Rattle.record.specs.Kinds.{letter_of}
 use Rattle.record.specs.Letters.{layout_at, layout_of, letter_at, width}
@@ -53,36 +55,54 @@ known_layout b y e = go (letter_at b) e
 pub known_width : (y : Layout) → y ≡ layout_of y.letter → y.name + y.text + y.span ≡ width y.letter
 known_width y e = ap (λ (w : Layout). w.name + w.text + w.span) e
 
-module _ (source : List ℕ) (before : List Entry) (rows : List Nest) (b : ℕ) (bs : List ℕ) (l : Letter) (known : letter_at b ≡ Some l) (complete : width l ≤ length bs) where
-  turn_known : turn source before rows b bs ≡ answered (fault_of source before rows (command_of l bs)) (command_of l bs)
-  turn_known = ap (asked source before rows bs) known ∙ cond-false _ _ _ (le-ltb (length bs) (width l) complete)
+-- A reader at a command whose layout the table gave, with its operands complete.
+module _ (r : Reader) (before : List Entry) (y : Layout) (some : 0 < length r.rest.now) (row : Some y ≡ layout_at (get_or r.rest.now 0 0)) (complete : y.name + y.text + y.span ≤ length (between 1 (length r.rest.now) r.rest.now)) where
+  abbrev byte : ℕ
+  byte = get_or r.rest.now 0 0
 
-  pub turn_operand : (reason : Reason) → operand_fault source (command_of l bs) ≡ Some reason → turn source before rows b bs ≡ Err reason
-  turn_operand reason e = turn_known ∙ ap (λ (o : Option Reason). answered (or_else o (place_fault source before rows (command_of l bs))) (command_of l bs)) e
+  abbrev behind : List ℕ
+  behind = between 1 (length r.rest.now) r.rest.now
 
-  pub turn_place : (reason : Reason) → operand_fault source (command_of l bs) ≡ None → place_fault source before rows (command_of l bs) ≡ Some reason → turn source before rows b bs ≡ Err reason
-  turn_place reason e f =
-      turn_known
-      ∙ ap (λ (o : Option Reason). answered (or_else o (place_fault source before rows (command_of l bs))) (command_of l bs)) e
-      ∙ ap (λ (o : Option Reason). answered o (command_of l bs)) f
+  begins : r.rest.now ≡ byte ∷ behind
+  begins = first_rest r.rest.now 0 some
 
-  pub turn_taken : operand_fault source (command_of l bs) ≡ None → place_fault source before rows (command_of l bs) ≡ None → turn source before rows b bs ≡ Ok (command_of l bs)
-  turn_taken e f =
-      turn_known
-      ∙ ap (λ (o : Option Reason). answered (or_else o (place_fault source before rows (command_of l bs))) (command_of l bs)) e
-      ∙ ap (λ (o : Option Reason). answered o (command_of l bs)) f
+  known : (letter_at byte ≡ Some y.letter) × (y ≡ layout_of y.letter)
+  known = known_layout byte y row
 
--- what is left of a record that begins with b
-module _ (r r' : Reader) (before : List Entry) (rest : List ℕ) (b : ℕ) (bs : List ℕ) (begins : rest ≡ b ∷ bs) where
-  pub stepped_refused : (answer : Result Entry Reason) (reason : Reason) → answer ≡ Err reason → turn r.source.now before (standing r).rows b bs ≡ Err reason → r' ≡ r → Stepped r r' before rest answer
-  stepped_refused answer reason is told same =
-      let P : List ℕ → Type 0 = λ xs. Stepped r r' before xs answer in
-      let Q : Result Entry Reason → Type 0 = Stepped r r' before (b ∷ bs) in
-      subst P (sym begins) (subst Q (sym is) (told, same))
+  wide : y.name + y.text + y.span ≡ width y.letter
+  wide = known_width y known.1
 
-  pub stepped_taken : (e : Entry) (c : Command) (left : List ℕ) → e ≡ entry (standing r) c → turn r.source.now before (standing r).rows b bs ≡ Ok c → standing r' ≡ taken (length before) (standing r) c → Moved r r' left → left ≡ drop (width (letter_of c)) bs → width (letter_of c) ≤ length bs → Stepped r r' before rest (Ok e)
-  stepped_taken e c left is told stands moved back fits =
-      let P : List ℕ → Type 0 = λ xs. Stepped r r' before xs (Ok e) in
-      let Q : Entry → Type 0 = λ x. Stepped r r' before (b ∷ bs) (Ok x) in
-      let M : List ℕ → Type 0 = Moved r r' in
-      subst P (sym begins) (subst Q (sym is) (told, refl, stands, subst M back moved, fits))
+  fits : width y.letter ≤ length behind
+  fits = omega (arith, complete, wide)
+
+  module _ (r' : Reader) (c : Command) (is : c ≡ command_of y.letter behind) where
+    turn_is : turn r.source.now before (standing r).rows byte behind ≡ answered (fault_of r.source.now before (standing r).rows c) c
+    turn_is =
+        ap (asked r.source.now before (standing r).rows behind) known.0
+        ∙ cond-false _ _ _ (le-ltb (length behind) (width y.letter) fits)
+        ∙ ap (λ (d : Command). answered (fault_of r.source.now before (standing r).rows d) d) (sym is)
+
+    -- the turn, once the operands are asked
+    turn_after : (o : Option Reason) → operand_fault r.source.now c ≡ o → turn r.source.now before (standing r).rows byte behind ≡ answered (or_else o (place_fault r.source.now before (standing r).rows c)) c
+    turn_after o asks = turn_is ∙ ap (λ (x : Option Reason). answered (or_else x (place_fault r.source.now before (standing r).rows c)) c) asks
+
+    refused : (answer : Result Entry Reason) (reason : Reason) → answer ≡ Err reason → turn r.source.now before (standing r).rows byte behind ≡ Err reason → r' ≡ r → Stepped r r' before r.rest.now answer
+    refused answer reason gave told same =
+        let P : List ℕ → Type 0 = λ xs. Stepped r r' before xs answer in
+        let Q : Result Entry Reason → Type 0 = Stepped r r' before (byte ∷ behind) in
+        subst P (sym begins) (subst Q (sym gave) (told, same))
+
+    pub refused_operands : (answer : Result Entry Reason) (reason : Reason) → answer ≡ Err reason → operand_fault r.source.now c ≡ Some reason → r' ≡ r → Stepped r r' before r.rest.now answer
+    refused_operands answer reason gave asks same = refused answer reason gave (turn_after (Some reason) asks) same
+
+    pub refused_place : (answer : Result Entry Reason) (reason : Reason) → answer ≡ Err reason → operand_fault r.source.now c ≡ None → place_fault r.source.now before (standing r).rows c ≡ Some reason → r' ≡ r → Stepped r r' before r.rest.now answer
+    refused_place answer reason gave asks place same = refused answer reason gave (turn_after None asks ∙ ap (λ (x : Option Reason). answered x c) place) same
+
+    pub stepped : (e : Entry) → e ≡ entry (standing r) c → operand_fault r.source.now c ≡ None → place_fault r.source.now before (standing r).rows c ≡ None → standing r' ≡ taken (length before) (standing r) c → Moved r r' (between (y.name + y.text + y.span) (length behind) behind) → Stepped r r' before r.rest.now (Ok e)
+    stepped e held asks place stands moved =
+        let told : turn r.source.now before (standing r).rows byte behind ≡ Ok c = turn_after None asks ∙ ap (λ (x : Option Reason). answered x c) place in
+        let same : width (letter_of c) ≡ width y.letter = ap width (ap letter_of is ∙ letter_of_command y.letter behind) in
+        let P : List ℕ → Type 0 = λ xs. Stepped r r' before xs (Ok e) in
+        let Q : Entry → Type 0 = λ x. Stepped r r' before (byte ∷ behind) (Ok x) in
+        let M : List ℕ → Type 0 = Moved r r' in
+        subst P (sym begins) (subst Q (sym held) (told, refl, stands, subst M (take_rest behind _ ∙ ap (λ (n : ℕ). drop n behind) (wide ∙ sym same)) moved, omega (arith, fits, same)))
