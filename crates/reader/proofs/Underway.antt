@@ -13,7 +13,7 @@ use Rattle.record.specs.Kinds.{is_end, letter_of}
 use Rattle.record.specs.Letters.{width}
 use Rattle.reader.specs.Questions.{Standing}
 use Rattle.reader.specs.Reading.{counted, ended, entry, read, read_from, refused, taken, turn}
-use Rattle.reader.specs.Rows.{Fresh, Moved, Next, Stepped, position, rows_of, standing}
+use Rattle.reader.specs.Rows.{Moved, Next, Stepped, position, standing}
 use Rattle.reader.proofs.Held.{length_rows}
 
 pub skipped : (source : List ℕ) (es : List Entry) (s : Standing) (at k : ℕ) (bs : List ℕ) → k ≤ length bs → read_from source es s at k bs ≡ read_from source es s at 0 (drop k bs)
@@ -30,9 +30,6 @@ module _ (source : List ℕ) (es : List Entry) (s : Standing) (at b : ℕ) (bs :
   abbrev pub turned : Result Command Reason → Result (List Entry) RecordFault
   turned (Ok c) = onward c (is_end c)
   turned (Err r) = refused r at
-
-  pub turn_is : read_from source es s at 0 (b ∷ bs) ≡ turned (turn source es s.rows b bs)
-  turn_is = refl
 
   pub read_refused : (r : Reason) → turn source es s.rows b bs ≡ Err r → read_from source es s at 0 (b ∷ bs) ≡ refused r at
   read_refused r told = ap turned told
@@ -72,16 +69,6 @@ pub record Underway (source bytes : List ℕ) (es : List Entry) (r : Reader) : T
   pub text : r.source.now ≡ source
   pub whole : r.bytes.now ≡ bytes
   pub gives : read_from source es (standing r) (position r) 0 r.rest.now ≡ read source bytes
-
-pub underway_fresh : (source bytes : List ℕ) (es : List Entry) (r : Reader) → es ≡ [] → Fresh source bytes r → Underway source bytes es r
-underway_fresh source bytes es r none f =
-    let start : position r ≡ 0 = omega (arith, ap length f.whole, ap length f.rest) in
-    let stands : standing r ≡ record { rows = []; body = 0 } = λ i. record { rows = rows_of (f.depth i) r.nests; body = f.body i } in
-    record {
-      text = f.source;
-      whole = f.whole;
-      gives = λ i. read_from source (none i) (stands i) (start i) 0 (f.rest i);
-    }
 
 module _ (source bytes : List ℕ) (es : List Entry) (r r' : Reader) (u : Underway source bytes es r) where
   -- the turn, over the source that is read

@@ -5,4 +5,4 @@ use Rattle.reader.proofs.state.Reader.count.Goals as goal
 pub returns-in-Some-clause-stands : goal.returns-in-Some-clause-stands
 returns-in-Some-clause-stands c =
     let r = c.args.self.now in
-    rw c.in-Some.ensures.1 (counted_inner r.depth r.nests r.body (omega (arith, c.in-Some.ensures.0)) (omega (arith, r.room)))
+    counted_inner r.depth c.in-Some.inner r.nests r.body (omega (arith, c.in-Some.ensures)) (omega (arith, r.room))
