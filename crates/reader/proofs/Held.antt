@@ -1,9 +1,9 @@
 -- The rows of the open containers, held in an array. Assumes nothing.
-use Rattle.std.proofs.Common.{◌≡◌, ℕ, zero, suc, ◌+◌, ◌<◌, ◌≤◌, Bool, false, cond, ltb, ◌≢◌, List, ◌∷◌, length, get_or, set, Some, None, refl, ap, ◌∙◌, arith}
+use Rattle.std.proofs.Common.{◌≡◌, ℕ, zero, suc, ◌+◌, ◌<◌, ◌≤◌, Bool, true, false, cond, ltb, ◌≢◌, List, ◌∷◌, length, get_or, set, Some, None, refl, ap, ◌∙◌, arith}
 use Rattle.std.proofs.lemmas.List.{get_or-set_same, get_or-set_other}
 use Rattle.reader.specs.declared.nest.Nest.{Nest}
 use Rattle.std.proofs.lemmas.Bool.{cond-true, lt-ltb}
-use Rattle.record.specs.declared.fault.Reason.TheVariants.{Repeated, TooDeep}
+use Rattle.record.specs.declared.fault.Reason.TheVariants.{Misplaced, Repeated, TooDeep}
 use Rattle.reader.specs.Questions.{Standing, or_else}
 use Rattle.reader.specs.Reading.{counted, raised}
 use Rattle.reader.specs.Rows.{rows_of, unused}
@@ -35,6 +35,6 @@ counted_inner (suc d) i ns body is h =
 
 -- ---- a container opened
 
--- its name is new, and fewer than 16 stand open
-pub may_enter : (t : Bool) (n : ℕ) → t ≡ false → n < 16 → or_else (cond t (Some Repeated) None) (cond (ltb n 16) None (Some TooDeep)) ≡ None
-may_enter t n e h = rw e (cond-true (ltb n 16) None (Some TooDeep) (lt-ltb n 16 h))
+-- it may stand there, its name is new, and fewer than 16 are open
+pub may_enter : (may known : Bool) (n : ℕ) → may ≡ true → known ≡ false → n < 16 → or_else (cond may None (Some Misplaced)) (or_else (cond known (Some Repeated) None) (cond (ltb n 16) None (Some TooDeep))) ≡ None
+may_enter may known n e f h = rw (e, f) (cond-true (ltb n 16) None (Some TooDeep) (lt-ltb n 16 h))

@@ -1,8 +1,7 @@
 -- How the reader holds what stands open, and what its inner functions promise one another. Assumes nothing.
 use Rattle.std.specs.Prelude.{◌≡◌, ℕ, zero, suc, ◌-◌, ◌<◌, ◌≤◌, ◌⊎◌, List, [], ◌∷◌, length, drop, Some, None, Ok, Err, Result, slice_index_or}
-use Rattle.text.specs.declared.part.Part.{Part}
 use Rattle.record.specs.declared.command.Command.{Command}
-use Rattle.record.specs.declared.command.Container.{Container}
+use Rattle.record.specs.declared.command.Command.TheVariants.{Extends, Open, Refer, Variable, Text, Close, End}
 use Rattle.record.specs.declared.command.Entry.{Entry}
 use Rattle.record.specs.declared.fault.Reason.{Reason}
 use Rattle.record.specs.declared.fault.Reason.TheVariants.{Unfinished}
@@ -10,10 +9,10 @@ use Rattle.record.specs.declared.command.Container.TheVariants.{Block}
 use Rattle.record.specs.declared.fault.RecordFault.{RecordFault}
 use Rattle.reader.specs.declared.nest.Nest.{Nest}
 use Rattle.reader.specs.declared.state.Reader.{Reader}
-use Rattle.reader.specs.Questions.{Standing, asks_depth, asks_new, or_else, place_fault}
+use Rattle.reader.specs.Questions.{Standing, place_fault}
 use Rattle.record.specs.Kinds.{letter_of}
 use Rattle.record.specs.Letters.{width}
-use Rattle.reader.specs.Reading.{counted, entry, pushed, taken, turn}
+use Rattle.reader.specs.Reading.{entry, taken, turn}
 
 -- a row that is not in use
 abbrev pub unused : Nest
@@ -33,19 +32,20 @@ pub record Moved (r r' : Reader) (left : List ℕ) : Type 0 where
   pub bytes : r'.bytes.now ≡ r.bytes.now
   pub rest : r'.rest.now ≡ left
 
--- what asking a command about its place answers, and what then stands
-abbrev pub Admitted : Reader → Reader → List Entry → Command → List ℕ → Result (Unit {0}) Reason → Type 0
-Admitted r r' before c rest (Ok u) = (place_fault r.source.now before (standing r).rows c ≡ None) × (standing r' ≡ taken (length before) (standing r) c) × Moved r r' rest
-Admitted r r' before c rest (Err reason) = (place_fault r.source.now before (standing r).rows c ≡ Some reason) × (r' ≡ r)
+-- there is room for what the command opens, and something is open that it closes
+abbrev pub HasRoom : ℕ → Command → Type 0
+HasRoom depth (Extends p) = Unit {0}
+HasRoom depth (Open o p) = depth < 16
+HasRoom depth (Refer k p s) = Unit {0}
+HasRoom depth (Variable p) = Unit {0}
+HasRoom depth (Text p) = Unit {0}
+HasRoom depth Close = 0 < depth
+HasRoom depth End = Unit {0}
 
--- the same of a container that is to be opened, where one may be
-abbrev pub Opened : Reader → Reader → List Entry → Container → Part → List ℕ → Result (Unit {0}) Reason → Type 0
-Opened r r' before kind name rest (Ok u) =
-    (or_else (asks_new r.source.now before (Some (kind, name))) (asks_depth (standing r).rows (Some (kind, name))) ≡ None)
-    × (standing r' ≡ pushed kind (length before) (counted (standing r).rows (standing r).body))
-    × Moved r r' rest
-Opened r r' before kind name rest (Err reason) =
-    (or_else (asks_new r.source.now before (Some (kind, name))) (asks_depth (standing r).rows (Some (kind, name))) ≡ Some reason) × (r' ≡ r)
+-- what asking a command about its place answers
+abbrev pub Admitted : Reader → List Entry → Command → Result (Unit {0}) Reason → Type 0
+Admitted r before c (Ok u) = (place_fault r.source.now before (standing r).rows c ≡ None) × HasRoom r.depth c
+Admitted r before c (Err reason) = place_fault r.source.now before (standing r).rows c ≡ Some reason
 
 -- what the next command answers, and what then stands; `rest` is what was left of the record
 abbrev pub Stepped : Reader → Reader → List Entry → List ℕ → Result Entry Reason → Type 0

@@ -2,8 +2,7 @@
 ghost use Rattle.std.specs.Prelude.{◌≡◌, ◌+◌, ◌<◌, ◌≤◌, length, slice_get};
 ghost use Rattle.reader.specs.Questions.{Checked, declared, may_open, stands};
 ghost use Rattle.reader.specs.Reading.{after, counted, entry};
-ghost use Rattle.record.specs.declared.command.Command.TheVariants.{Close};
-ghost use Rattle.reader.specs.Rows.{Admitted, Finished, Fresh, Moved, Next, Opened, Stepped, position, standing};
+ghost use Rattle.reader.specs.Rows.{Admitted, Finished, HasRoom, Fresh, Moved, Next, Stepped, position, standing};
 
 use crate::commands::command;
 use crate::nest::{Nest, Stands};
@@ -12,7 +11,6 @@ use record::command::{Command, Container, Entry, Owner};
 use record::fault::{Reason, RecordFault};
 use record::table::layout;
 use text::lines::line_count;
-use text::part::Part;
 
 // How many containers may stand open.
 const DEEPEST: usize = 16;
@@ -72,89 +70,29 @@ impl<'a> Reader<'a> {
         }
     }
 
-    // A command is taken: one more stands in the innermost container, or in the body, and `rest` is left of the record.
-    fn count(&mut self, rest: &'a [u8])
-        requires shorter { length rest.now < length self.old.rest.now }
-        ensures stands { standing self.new ≡ counted (standing self.old).rows (standing self.old).body }
-        ensures depth { self.new.depth ≡ self.old.depth }
-        ensures moved { Moved self.old self.new rest.now }
-    {
-        self.rest = rest;
-        match self.depth.checked_sub(1) {
-            Some(inner) => {
-                self.nests[inner].commands += 1;
-            }
-            None => {
-                self.body += 1;
-            }
-        }
-    }
-
-    // Opens a container where one may stand: its name is to be new, and fewer than 16 open.
-    fn open(
-        &mut self,
-        kind: Container,
-        name: Part,
-        rest: &'a [u8],
-        before: &[Entry],
-    ) -> Result<(), Reason>
-        requires shorter { length rest.now < length self.old.rest.now }
-        ensures { Opened self.old self.new before.now kind name rest.now result }
-    {
-        if declared(self.source, kind, name.bytes(self.source), before) {
-            return Err(Reason::Repeated);
-        }
-        if self.depth >= DEEPEST {
-            return Err(Reason::TooDeep);
-        }
-        self.count(rest);
-        self.nests[self.depth] = Nest {
-            container: kind,
-            opener: before.len(),
-            commands: 0,
-        };
-        self.depth += 1;
-        Ok(())
-    }
-
-    // Closes the innermost container.
-    fn close(&mut self, rest: &'a [u8])
-        requires shorter { length rest.now < length self.old.rest.now }
-        requires some { 0 < self.old.depth }
-        ensures stands { standing self.new ≡ after 0 (counted (standing self.old).rows (standing self.old).body) Close }
-        ensures moved { Moved self.old self.new rest.now }
-    {
-        self.count(rest);
-        self.depth -= 1;
-    }
-
-    // Asks whether the command may stand here, and takes it: what it opens is opened, what it closes is closed.
-    fn admit(&mut self, command: Command, rest: &'a [u8], before: &[Entry]) -> Result<(), Reason>
-        requires shorter { length rest.now < length self.old.rest.now }
-        ensures { Admitted self.old self.new before.now command rest.now result }
+    // Asks of the place: whether the command may stand here, and of what it opens whether its name is new and fewer than 16 open.
+    fn admit(&self, command: Command, before: &[Entry]) -> Result<(), Reason>
+        ensures { Admitted self.now before.now command result }
     {
         match (command, self.stands(before)) {
-            (Command::Extends(_), Stands::First) => {
-                self.count(rest);
-                Ok(())
-            }
+            (Command::Extends(_), Stands::First) => Ok(()),
             (Command::Extends(_), _) => Err(Reason::Misplaced),
             (Command::Open(opener, name), stands) => {
                 let kind = opener.container();
                 if !may_open(stands, kind) {
                     return Err(Reason::Misplaced);
                 }
-                self.open(kind, name, rest, before)
-            }
-            (Command::Close, Stands::InBlock | Stands::InComponent) => {
-                self.close(rest);
+                if declared(self.source, kind, name.bytes(self.source), before) {
+                    return Err(Reason::Repeated);
+                }
+                if self.depth >= DEEPEST {
+                    return Err(Reason::TooDeep);
+                }
                 Ok(())
             }
+            (Command::Close, Stands::InBlock | Stands::InComponent) => Ok(()),
             (Command::Close, _) => Err(Reason::Misplaced),
-            (_, _) => {
-                self.count(rest);
-                Ok(())
-            }
+            (_, _) => Ok(()),
         }
     }
 
@@ -173,6 +111,46 @@ impl<'a> Reader<'a> {
         Ok(())
     }
 
+    // One command more stands in the innermost container, or in the body, and `rest` is left of the record.
+    fn count(&mut self, rest: &'a [u8])
+        requires { length rest.now < length self.old.rest.now }
+        ensures stands { standing self.new ≡ counted (standing self.old).rows (standing self.old).body }
+        ensures depth { self.new.depth ≡ self.old.depth }
+        ensures moved { Moved self.old self.new rest.now }
+    {
+        self.rest = rest;
+        match self.depth.checked_sub(1) {
+            Some(inner) => {
+                self.nests[inner].commands += 1;
+            }
+            None => {
+                self.body += 1;
+            }
+        }
+    }
+
+    // What the command opens is opened, and what it closes is closed; `place` commands were read before it.
+    fn nest(&mut self, command: Command, place: usize)
+        requires { HasRoom self.old.depth command }
+        ensures stands { standing self.new ≡ after place (standing self.old) command }
+        ensures moved { Moved self.old self.new self.old.rest.now }
+    {
+        match command {
+            Command::Open(opener, _) => {
+                self.nests[self.depth] = Nest {
+                    container: opener.container(),
+                    opener: place,
+                    commands: 0,
+                };
+                self.depth += 1;
+            }
+            Command::Close => {
+                self.depth -= 1;
+            }
+            _ => {}
+        }
+    }
+
     // The next command, or why it is refused; then the reader stands where it stood.
     fn step(&mut self, before: &[Entry]) -> Result<Entry, Reason>
         ensures { Stepped self.old self.new before.now self.old.rest.now result }
@@ -189,8 +167,10 @@ impl<'a> Reader<'a> {
         }
         let command = command(layout.letter, after);
         self.check(command)?;
+        self.admit(command, before)?;
         let entry = self.here(command);
-        self.admit(command, &after[width..], before)?;
+        self.count(&after[width..]);
+        self.nest(command, before.len());
         Ok(entry)
     }
 
