@@ -13,7 +13,7 @@ use Rattle.record.specs.Kinds.{is_end, letter_of}
 use Rattle.record.specs.Letters.{width}
 use Rattle.reader.specs.Questions.{Standing}
 use Rattle.reader.specs.Reading.{counted, ended, entry, read, read_from, refused, taken, turn}
-use Rattle.reader.specs.Rows.{Moved, Next, Stepped, position, standing}
+use Rattle.reader.specs.Rows.{Finished, Next, Stepped, position, standing}
 use Rattle.reader.proofs.Held.{length_rows}
 
 pub skipped : (source : List ℕ) (es : List Entry) (s : Standing) (at k : ℕ) (bs : List ℕ) → k ≤ length bs → read_from source es s at k bs ≡ read_from source es s at 0 (drop k bs)
@@ -85,74 +85,72 @@ module _ (source bytes : List ℕ) (es : List Entry) (r r' : Reader) (u : Underw
       go [] is t = sym (from_rest [] is) ∙ (λ i. Err record { reason = sym t.0 i; at = sym h.1 i })
       go (b ∷ bs) is t = sym (from_rest (b ∷ bs) is) ∙ read_refused source es (standing r) (position r) b bs fault.reason (told_of b bs _ t.0) ∙ (λ i. Err record { reason = fault.reason; at = sym h.1 i })
 
-  -- where the reader stands after a command of w bytes of operands
-  moved_on : (b : ℕ) (bs : List ℕ) (w : ℕ) → r.rest.now ≡ b ∷ bs → Moved r r' (drop w bs) → w ≤ length bs → position r' ≡ position r + 1 + w
-  moved_on b bs w is m h = omega (arith, ap length is, ap length m.bytes, ap length m.rest, length-drop w bs, r.part)
+  -- the command that was taken, and what was left of the record
+  record Begun (e : Entry) : Type 0 where
+    byte : ℕ
+    behind : List ℕ
+    is : r.rest.now ≡ byte ∷ behind
+    told : Stepped r r' es (byte ∷ behind) (Ok e)
 
-  pub underway_more : (e : Entry) (es' : List Entry) → Next r r' es (Ok e) → is_end e.command ≡ false → es' ≡ es ++ e ∷ [] → Underway source bytes es' r'
-  underway_more e es' h not_end pushed = go r.rest.now refl h
+  begun : (e : Entry) → Next r r' es (Ok e) → Begun e
+  begun e h = go r.rest.now refl h
     where
-      go : (rest : List ℕ) → r.rest.now ≡ rest → Stepped r r' es rest (Ok e) → Underway source bytes es' r'
+      go : (rest : List ℕ) → r.rest.now ≡ rest → Stepped r r' es rest (Ok e) → Begun e
       go [] is t = absurd t
-      go (b ∷ bs) is t =
-          let w = width (letter_of e.command) in
-          let more = read_taken source es (standing r) (position r) b bs e.command (told_of b bs _ t.0) not_end t.4 in
-          let at = moved_on b bs w is t.3 t.4 in
-          record {
-            text = t.3.source ∙ u.text;
-            whole = t.3.bytes ∙ u.whole;
-            gives = (λ i. read_from source ((pushed ∙ ap (λ (x : Entry). es ++ x ∷ []) t.1) i) (t.2 i) (at i) 0 (t.3.rest i)) ∙ sym more ∙ from_rest (b ∷ bs) is;
-          }
+      go (b ∷ bs) is t = record { byte = b; behind = bs; is = is; told = t }
 
-  -- after Z as many containers are open as before it, and its bytes are all that was taken
-  module _ (e : Entry) (is_last : is_end e.command ≡ true) (b : ℕ) (bs : List ℕ) (is : r.rest.now ≡ b ∷ bs) (t : Stepped r r' es (b ∷ bs) (Ok e)) where
-    open_then : length (standing r).rows ≡ r'.depth
-    open_then =
-        sym (length_counted (standing r).rows (standing r).body)
-        ∙ sym (ap (λ (s : Standing). length s.rows) (t.2 ∙ ap (taken (length es) (standing r)) (end_is e.command is_last)))
-        ∙ length_rows r'.depth r'.nests
+  module _ (e : Entry) (h : Next r r' es (Ok e)) where
+    abbrev b : ℕ
+    b = (begun e h).byte
 
-    no_operands : width (letter_of e.command) ≡ 0
-    no_operands = ap (λ (c : Command). width (letter_of c)) (end_is e.command is_last)
+    abbrev bs : List ℕ
+    bs = (begun e h).behind
 
-    left_then : length r'.rest.now ≡ length bs
-    left_then = omega (arith, ap length t.3.rest, length-drop (width (letter_of e.command)) bs, no_operands)
+    is : r.rest.now ≡ b ∷ bs
+    is = (begun e h).is
 
-    at_then : position r' ≡ position r + 1
-    at_then = moved_on b bs (width (letter_of e.command)) is t.3 t.4 ∙ omega (arith, no_operands)
+    t : Stepped r r' es (b ∷ bs) (Ok e)
+    t = (begun e h).told
 
-    read_last : read source bytes ≡ ended (es ++ e ∷ []) (standing r).rows (position r + 1) bs
-    read_last =
-        sym (from_rest (b ∷ bs) is)
-        ∙ read_ended source es (standing r) (position r) b bs e.command (told_of b bs _ t.0) is_last
-        ∙ ap (λ (x : Entry). ended (es ++ x ∷ []) (standing r).rows (position r + 1) bs) (sym t.1)
+    -- where the reader stands then
+    moved_on : position r' ≡ position r + 1 + width (letter_of e.command)
+    moved_on = omega (arith, ap length is, ap length t.3.bytes, ap length t.3.rest, length-drop (width (letter_of e.command)) bs, t.4, r.part)
 
-  pub finished_read : (e : Entry) (es' : List Entry) → Next r r' es (Ok e) → is_end e.command ≡ true → es' ≡ es ++ e ∷ [] → (r'.depth ≡ 0) × (length r'.rest.now ≡ 0) → read source bytes ≡ Ok es'
-  finished_read e es' h is_last pushed done = go r.rest.now refl h
-    where
-      go : (rest : List ℕ) → r.rest.now ≡ rest → Stepped r r' es rest (Ok e) → read source bytes ≡ Ok es'
-      go [] is t = absurd t
-      go (b ∷ bs) is t =
-          read_last e is_last b bs is t
-          ∙ ended_whole (es ++ e ∷ []) (standing r).rows (position r + 1) bs (open_then e is_last b bs is t ∙ done.0) (sym (left_then e is_last b bs is t) ∙ done.1)
-          ∙ ap Ok (sym pushed)
+    pub underway_more : (es' : List Entry) → is_end e.command ≡ false → es' ≡ es ++ e ∷ [] → Underway source bytes es' r'
+    underway_more es' not_end pushed =
+        let more = read_taken source es (standing r) (position r) b bs e.command (told_of b bs _ t.0) not_end t.4 in
+        record {
+          text = t.3.source ∙ u.text;
+          whole = t.3.bytes ∙ u.whole;
+          gives = (λ i. read_from source ((pushed ∙ ap (λ (x : Entry). es ++ x ∷ []) t.1) i) (t.2 i) (moved_on i) 0 (t.3.rest i)) ∙ sym more ∙ from_rest (b ∷ bs) is;
+        }
 
-  pub unfinished_read : (e : Entry) (fault : RecordFault) → Next r r' es (Ok e) → is_end e.command ≡ true → (fault ≡ record { reason = Unfinished; at = position r' }) × ((0 < r'.depth) ⊎ (0 < length r'.rest.now)) → read source bytes ≡ Err fault
-  unfinished_read e fault h is_last early = go r.rest.now refl h
-    where
-      go : (rest : List ℕ) → r.rest.now ≡ rest → Stepped r r' es rest (Ok e) → read source bytes ≡ Err fault
-      go [] is t = absurd t
-      go (b ∷ bs) is t =
-          let left : (0 < length (standing r).rows) ⊎ (0 < length bs) = ⊎_elim (λ d. inl (omega (arith, open_then e is_last b bs is t))) (λ d. inr (omega (arith, left_then e is_last b bs is t))) early.1 in
-          read_last e is_last b bs is t
-          ∙ ended_early (es ++ e ∷ []) (standing r).rows (position r + 1) bs left
-          ∙ ap (refused Unfinished) (sym (at_then e is_last b bs is t))
-          ∙ ap Err (sym early.0)
+    -- after Z as many containers are open as before it, and its bytes are all that was taken
+    module _ (is_last : is_end e.command ≡ true) (es' : List Entry) (pushed : es' ≡ es ++ e ∷ []) where
+      no_operands : width (letter_of e.command) ≡ 0
+      no_operands = ap (λ (c : Command). width (letter_of c)) (end_is e.command is_last)
 
--- each command takes a byte at least
-pub shorter : (r r' : Reader) (es : List Entry) (e : Entry) → Next r r' es (Ok e) → length r'.rest.now < length r.rest.now
-shorter r r' es e h = go r.rest.now refl h
-  where
-    go : (rest : List ℕ) → r.rest.now ≡ rest → Stepped r r' es rest (Ok e) → length r'.rest.now < length r.rest.now
-    go [] is t = absurd t
-    go (b ∷ bs) is t = omega (arith, ap length is, ap length t.3.rest, length-drop (width (letter_of e.command)) bs)
+      open_then : length (standing r).rows ≡ r'.depth
+      open_then =
+          sym (length_counted (standing r).rows (standing r).body)
+          ∙ sym (ap (λ (s : Standing). length s.rows) (t.2 ∙ ap (taken (length es) (standing r)) (end_is e.command is_last)))
+          ∙ length_rows r'.depth r'.nests
+
+      left_then : length r'.rest.now ≡ length bs
+      left_then = omega (arith, ap length t.3.rest, length-drop (width (letter_of e.command)) bs, no_operands)
+
+      read_last : read source bytes ≡ ended es' (standing r).rows (position r + 1) bs
+      read_last =
+          sym (from_rest (b ∷ bs) is)
+          ∙ read_ended source es (standing r) (position r) b bs e.command (told_of b bs _ t.0) is_last
+          ∙ ap (λ (x : Entry). ended (es ++ x ∷ []) (standing r).rows (position r + 1) bs) (sym t.1)
+          ∙ ap (λ (l : List Entry). ended l (standing r).rows (position r + 1) bs) (sym pushed)
+
+      pub finished_read : Finished r' (Ok tt) → read source bytes ≡ Ok es'
+      finished_read done = read_last ∙ ended_whole es' (standing r).rows (position r + 1) bs (open_then ∙ done.0) (sym left_then ∙ done.1)
+
+      pub unfinished_read : (fault : RecordFault) → Finished r' (Err fault) → read source bytes ≡ Err fault
+      unfinished_read fault early =
+          let left : (0 < length (standing r).rows) ⊎ (0 < length bs) = ⊎_elim (λ d. inl (omega (arith, open_then))) (λ d. inr (omega (arith, left_then))) early.1 in
+          let at : position r' ≡ position r + 1 = omega (arith, moved_on, no_operands) in
+          read_last ∙ ended_early es' (standing r).rows (position r + 1) bs left ∙ ap (refused Unfinished) (sym at) ∙ ap Err (sym early.0)

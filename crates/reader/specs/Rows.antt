@@ -26,7 +26,7 @@ rows_of (suc depth) nests = slice_index_or nests depth unused ∷ rows_of depth 
 abbrev pub standing : Reader → Standing
 standing r = record { rows = rows_of r.depth r.nests; body = r.body }
 
--- the reader took a command: so much is left
+-- over the same source and record, so much is left
 pub record Moved (r r' : Reader) (left : List ℕ) : Type 0 where
   pub source : r'.source.now ≡ r.source.now
   pub bytes : r'.bytes.now ≡ r.bytes.now

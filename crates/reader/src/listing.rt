@@ -4,7 +4,9 @@ ghost use Rattle.reader.specs.Places.{placed};
 
 use record::command::Entry;
 
-// Each entry names the innermost container that its command stands in.
+// Each entry names the innermost container that its command stands in, by the index of its opener.
+// No tree in place of the list would be plainer: the record is a flat list, which is written out
+// again byte for byte, and callers ask by that index.
 #[derive(Drop)]
 pub struct Listing {
     pub(crate) source: String,

@@ -2,7 +2,7 @@
 ghost use Rattle.std.specs.Prelude.{◌≡◌, ◌+◌, ◌<◌, ◌≤◌, length, slice_get};
 ghost use Rattle.reader.specs.Questions.{Checked, declared, may_open, stands};
 ghost use Rattle.reader.specs.Reading.{after, counted, entry};
-ghost use Rattle.reader.specs.Rows.{Admitted, Finished, HasRoom, Fresh, Moved, Next, Stepped, position, standing};
+ghost use Rattle.reader.specs.Rows.{Admitted, Finished, Fresh, HasRoom, Moved, Next, Stepped, position, standing};
 
 use crate::commands::command;
 use crate::nest::{Nest, Stands};
@@ -181,7 +181,8 @@ impl<'a> Reader<'a> {
         self.bytes.len() - self.rest.len()
     }
 
-    // The next command, or the fault with its place.
+    // The next command, or the fault with its place. The entries stay with the caller, which pushes
+    // the new one: so reading a command cannot run out of memory, and `before` is passed.
     pub(crate) fn next(&mut self, before: &[Entry]) -> Result<Entry, RecordFault>
         ensures { Next self.old self.new before.now result }
     {

@@ -14,15 +14,16 @@ pub struct Reader<'a> {
     // the whole record, and what is left of it
     pub(crate) bytes: &'a [u8],
     pub(crate) rest: &'a [u8],
-    // the first `depth` rows are the open containers, the innermost last
+    // The first `depth` rows are the open containers, the innermost last: an array with its depth,
+    // since no more than 16 may be open and the reader's memory is to be fixed.
     pub(crate) nests: [Nest; 16],
     pub(crate) depth: usize,
     // how many commands stand directly in the body
     pub(crate) body: usize,
     ghost all_lines: { lines ≡ breaks source.now + 1 },
     ghost room: { depth ≤ 16 },
-    // Each command takes a byte at least, so what is read of the record bounds every count, and no
-    // count can overflow.
+    // Each command takes a byte at least, so what is read of the record bounds every count: none can
+    // overflow.
     ghost part: { length rest.now ≤ length bytes.now },
     ghost body_within: { body + length rest.now ≤ length bytes.now },
     ghost nests_within: { All (λ (n : Nest). n.commands + length rest.now ≤ length bytes.now) nests },

@@ -7,7 +7,7 @@ use Rattle.reader.specs.Reading.{read}
 use Rattle.reader.specs.Records.{Reads}
 use Rattle.reader.specs.Rows.{Next}
 use Rattle.reader.proofs.Judging.{accepted, judged}
-use Rattle.reader.proofs.Underway.{fault_read, finished_read, shorter, underway_more, unfinished_read}
+use Rattle.reader.proofs.Underway.{fault_read, finished_read, underway_more, unfinished_read}
 use Rattle.reader.proofs.read.read.Goals as goal
 use Rattle.reader.proofs.read.read.Goals.{In_ok-entry, In_ok-finish}
 
@@ -20,7 +20,7 @@ taken c =
 -- after Z, with nothing left and nothing open, the entries are the whole answer
 whole : (c : In_ok-finish) → Next c.loop-entries.reader c.next.new.self (vec_items c.loop-entries.entries) (Ok c.in_ok-entry.entry) → read c.args.source.now c.args.«record».now ≡ Ok (vec_items c.push.new.self)
 whole c told =
-    finished_read c.args.source.now c.args.«record».now (vec_items c.loop-entries.entries) c.loop-entries.reader c.next.new.self c.loop-entries.invariant c.in_ok-entry.entry (vec_items c.push.new.self) told (sym c.is_end.ensures ∙ c.if-is_end.true) c.in_ok-push.ensures.items c.in_ok-finish.ensures
+    finished_read c.args.source.now c.args.«record».now (vec_items c.loop-entries.entries) c.loop-entries.reader c.next.new.self c.loop-entries.invariant c.in_ok-entry.entry told (sym c.is_end.ensures ∙ c.if-is_end.true) (vec_items c.push.new.self) c.in_ok-push.ensures.items c.in_ok-finish.ensures
 
 pub returns-in_err-entry : goal.returns-in_err-entry
 returns-in_err-entry c =
@@ -40,15 +40,12 @@ returns-in_err-finish c =
     let R : Result Listing ReadError → Type 0 = Reads c.args.source.now c.args.«record».now in
     let reads : R c.from_residual-in_err-finish.result =
     subst R (sym (p.1 ∙ ap Err p.2))
-    (unfinished_read c.args.source.now c.args.«record».now (vec_items c.loop-entries.entries) c.loop-entries.reader c.next.new.self c.loop-entries.invariant c.in_ok-entry.entry c.in_err-finish.field-0.0 (taken (goal.at.returns-in_err-finish c).In_ok-entry) (sym c.is_end.ensures ∙ c.if-is_end.true) c.in_err-finish.ensures) in
+    (unfinished_read c.args.source.now c.args.«record».now (vec_items c.loop-entries.entries) c.loop-entries.reader c.next.new.self c.loop-entries.invariant c.in_ok-entry.entry (taken (goal.at.returns-in_err-finish c).In_ok-entry) (sym c.is_end.ensures ∙ c.if-is_end.true) (vec_items c.push.new.self) c.in_ok-push.ensures.items c.in_err-finish.field-0.0 c.in_err-finish.ensures) in
     record { reads = reads; judged = judged _ _ c.from_residual-in_err-finish.result (λ i. (c.type_inv.«record» i).fits) reads }
-
-pub loop-entries-smaller : goal.loop-entries-smaller
-loop-entries-smaller c = shorter c.loop-entries.reader c.next.new.self _ _ c.in_ok-entry.ensures
 
 pub loop-entries-preserved : goal.loop-entries-preserved
 loop-entries-preserved c =
-    underway_more c.args.source.now c.args.«record».now (vec_items c.loop-entries.entries) c.loop-entries.reader c.next.new.self c.loop-entries.invariant c.in_ok-entry.entry (vec_items c.push.new.self) (taken (goal.at.loop-entries-preserved c).In_ok-entry) (sym c.is_end.ensures ∙ c.if-is_end.false) c.in_ok-push.ensures.items
+    underway_more c.args.source.now c.args.«record».now (vec_items c.loop-entries.entries) c.loop-entries.reader c.next.new.self c.loop-entries.invariant c.in_ok-entry.entry (taken (goal.at.loop-entries-preserved c).In_ok-entry) (vec_items c.push.new.self) (sym c.is_end.ensures ∙ c.if-is_end.false) c.in_ok-push.ensures.items
 
 pub invariant_of-result : goal.invariant_of-result
 invariant_of-result c =
