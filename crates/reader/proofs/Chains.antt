@@ -24,7 +24,8 @@ pub data Chain (source : List ℕ) : List Entry → Standing → List Command �
   last : (es : List Entry) (s : Standing) (c : Command) → is_end c ≡ true → fault_of source es s.rows c ≡ None → s.rows ≡ [] → Chain source es s (c ∷ []) (es ++ entry s c ∷ [])
   next : (es : List Entry) (s : Standing) (c : Command) (cs : List Command) (out : List Entry) → is_end c ≡ false → fault_of source es s.rows c ≡ None → Chain source (es ++ entry s c ∷ []) (taken (length es) s c) cs out → Chain source es s (c ∷ cs) out
 
-apart : {X : Type 0} {E : Type 0} {x : X} {e : E} → ◌≡◌ {A = Result X E} (Err e) (Ok x) → ⊥
+-- what is refused is not taken
+pub apart : {X : Type 0} {E : Type 0} {x : X} {e : E} → ◌≡◌ {A = Result X E} (Err e) (Ok x) → ⊥
 apart e = let z : ◌≡◌ {A = ℕ} 0 1 = cc in omega arith
 
 -- ---- what a turn that was taken tells

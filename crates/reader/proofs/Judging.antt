@@ -2,6 +2,7 @@
 use Rattle.std.proofs.Common.{◌≡◌, ℕ, suc, ◌+◌, ◌<◌, Bool, true, false, cond, ◌&&◌, ◌||◌, ltb, leb, List, [], ◌∷◌, ◌++◌, map, length, Some, None, Ok, Err, Option, Result, sym, refl, ap, ◌∙◌, subst, arith}
 use Rattle.std.specs.List.{AllByRecursion}
 use Rattle.std.proofs.lemmas.List.{append_assoc, length-map, length_push, map_push}
+use Rattle.std.proofs.lemmas.Option.{none-some}
 use Rattle.std.proofs.lemmas.Bool.{and_from, and_parts, cond-true, cond-false, le-leb, leb-true, lt-ltb, ltb-true}
 use Rattle.text.specs.Lines.{breaks}
 use Rattle.text.specs.Spans.{lawful_in}
@@ -21,7 +22,6 @@ use Rattle.record.specs.declared.fault.ReadError.{ReadError}
 use Rattle.record.specs.declared.fault.ReadError.TheVariants.{Record, Memory}
 use Rattle.record.specs.declared.fault.Reason.{Reason}
 use Rattle.record.specs.declared.fault.Reason.TheVariants.{Span as NotLawful, Misplaced, Repeated, TooDeep}
-use Rattle.record.specs.declared.fault.RecordFault.{RecordFault}
 use Rattle.reader.specs.declared.listing.Listing.{Listing}
 use Rattle.reader.specs.declared.nest.Nest.{Nest}
 use Rattle.record.specs.Kinds.{opens, part_of, span_of}
@@ -33,7 +33,7 @@ use Rattle.reader.specs.Records.{Accepted, Judged, Reads, entries_of}
 use Rattle.reader.specs.WellFormed.{Distinct, Holds, Lawful, TextInside, WellFormed, names}
 use Rattle.reader.specs.Written.{written}
 use Rattle.reader.proofs.Bytes.{Bytes}
-use Rattle.reader.proofs.Chains.{Chain, made, read_again}
+use Rattle.reader.proofs.Chains.{Chain, apart, made, read_again}
 use Rattle.reader.proofs.Chains.Chain.{last, next}
 use Rattle.reader.proofs.Novelty.{New, among, distinct, new}
 use Rattle.reader.proofs.Placing.{chain_innermost}
@@ -41,12 +41,9 @@ use Rattle.reader.proofs.Shapes.{Steps, moved, shaped, stands_in, steps}
 use Rattle.reader.proofs.Shapes.Steps.{stop, go}
 use Rattle.reader.proofs.Underway.{end_is}
 
-none_some : {X : Type 0} {x : X} → ◌≡◌ {A = Option X} (Some x) None → ⊥
-none_some e = let z : ◌≡◌ {A = ℕ} 0 1 = cc in omega arith
-
 neither : (a b : Option Reason) → or_else a b ≡ None → (a ≡ None) × (b ≡ None)
 neither None b e = (refl, e)
-neither (Some r) b e = absurd (none_some e)
+neither (Some r) b e = absurd (none-some _ (sym e))
 
 -- ---- operands
 
@@ -55,9 +52,9 @@ part_ok source p e = go (inside source p) refl (utf8 (part_bytes source p)) refl
   where
     go : (a : Bool) → inside source p ≡ a → (b : Bool) → utf8 (part_bytes source p) ≡ b → cond a (cond b None (Some NotUtf8)) (Some Outside) ≡ None → TextInside source p
     go true i true u f = record { inside = leb-true (p.start + p.len) (length source) i; text = (utf8_decides (part_bytes source p)).0 u }
-    go true i false u f = absurd (none_some f)
-    go false i true u f = absurd (none_some f)
-    go false i false u f = absurd (none_some f)
+    go true i false u f = absurd (none-some _ (sym f))
+    go false i true u f = absurd (none-some _ (sym f))
+    go false i false u f = absurd (none-some _ (sym f))
 
 part_back : (source : List ℕ) (p : Part) → TextInside source p → part_fault source p ≡ None
 part_back source p h =
@@ -70,7 +67,7 @@ text_ok source (Some p) e = part_ok source p (go (part_fault source p) e)
   where
     go : (f : Option TextFault) → not_text f ≡ None → f ≡ None
     go None e = refl
-    go (Some f) e = absurd (none_some e)
+    go (Some f) e = absurd (none-some _ (sym e))
 
 text_back : (source : List ℕ) (o : Option Part) → Holds (TextInside source) o → not_text (asks_part source o) ≡ None
 text_back source None h = refl
@@ -93,7 +90,7 @@ span_ok source (Some s) e = go (lawful_in source s) refl e
           forward = leb-true _ _ c.0;
           inside = leb-true _ _ c.1;
         }
-    go false t f = absurd (none_some f)
+    go false t f = absurd (none-some _ (sym f))
 
 span_back : (source : List ℕ) (o : Option Span) → Holds (Lawful source) o → asks_span source o ≡ None
 span_back source None h = refl
@@ -132,14 +129,14 @@ declared_among source kind name (e ∷ es) = ap (λ (t : Bool). opens_named sour
 
 allowed_ok : (t : Bool) → cond t None (Some Misplaced) ≡ None → t ≡ true
 allowed_ok true e = refl
-allowed_ok false e = absurd (none_some e)
+allowed_ok false e = absurd (none-some _ (sym e))
 
 new_ok : (source : List ℕ) (es : List Entry) (o : Option (Container × Part)) → asks_new source es o ≡ None → Holds (λ q. among source q.0 (part_bytes source q.1) (commands_of es) ≡ false) o
 new_ok source es None e = tt
 new_ok source es (Some q) e = sym (declared_among source q.0 (part_bytes source q.1) es) ∙ go_new (declared source q.0 (part_bytes source q.1) es) e
   where
     go_new : (t : Bool) → cond t (Some Repeated) None ≡ None → t ≡ false
-    go_new true f = absurd (none_some f)
+    go_new true f = absurd (none-some _ (sym f))
     go_new false f = refl
 
 new_back : (source : List ℕ) (es : List Entry) (o : Option (Container × Part)) → Holds (λ q. among source q.0 (part_bytes source q.1) (commands_of es) ≡ false) o → asks_new source es o ≡ None
@@ -152,7 +149,7 @@ depth_ok rows (Some q) e = go_deep (ltb (length rows) 16) refl e
   where
     go_deep : (t : Bool) → ltb (length rows) 16 ≡ t → cond t None (Some TooDeep) ≡ None → length (kinds rows) < 16
     go_deep true t f = omega (arith, ltb-true (length rows) 16 t, length-map rows (λ (r : Nest). r.container))
-    go_deep false t f = absurd (none_some f)
+    go_deep false t f = absurd (none-some _ (sym f))
 
 depth_back : (rows : List Nest) (o : Option (Container × Part)) → Holds (λ _. length (kinds rows) < 16) o → asks_depth rows o ≡ None
 depth_back rows None h = refl
@@ -276,7 +273,5 @@ pub judged : (source bytes : List ℕ) (r : Result Listing ReadError) → Bytes 
 judged source bytes (Ok l) small h = accepted source bytes (entries_of l) small h.1
 judged source bytes (Err (Record fault)) small h = λ cs well is.
     let found = read_well_formed source bytes cs well is in
-    let z : ◌≡◌ {A = Result (List Entry) RecordFault} (Err fault) (Ok found.0) = sym h ∙ found.1 in
-    let y : ◌≡◌ {A = ℕ} 0 1 = cc in
-    omega arith
+    apart (sym h ∙ found.1)
 judged source bytes (Err Memory) small h = tt

@@ -4,6 +4,7 @@ use Rattle.std.specs.List.{between}
 use Rattle.std.specs.Option.{option_map}
 use Rattle.std.proofs.lemmas.List.{take_rest}
 use Rattle.std.proofs.lemmas.Slice.{first_rest}
+use Rattle.std.proofs.lemmas.Option.{none-some}
 use Rattle.std.proofs.lemmas.Bool.{cond-false, le-ltb}
 use Rattle.record.specs.declared.command.Command.{Command}
 use Rattle.record.specs.declared.command.Entry.{Entry}
@@ -46,7 +47,7 @@ pub known_layout : (b : ℕ) (y : Layout) → Some y ≡ layout_at b → (letter
 known_layout b y e = go (letter_at b) e
   where
     go : (o : Option Letter) → Some y ≡ option_map layout_of o → (o ≡ Some y.letter) × (y ≡ layout_of y.letter)
-    go None e = absurd (let z : ◌≡◌ {A = ℕ} 0 1 = cc in omega arith)
+    go None e = absurd (none-some y (sym e))
     go (Some l) e =
         let same : y ≡ layout_of l = cc in
         let letter : y.letter ≡ l = ap (λ (w : Layout). w.letter) same ∙ letter_of_layout l in
