@@ -162,14 +162,14 @@ impl<'a> Reader<'a> {
             return Err(Reason::Unknown);
         };
         let width = layout.name + layout.text + layout.span;
-        if after.len() < width {
+        let Some(rest) = after.get(width..) else {
             return Err(Reason::Incomplete);
-        }
+        };
         let command = command(layout.letter, after);
         self.check(command)?;
         self.admit(command, before)?;
         let entry = self.here(command);
-        self.count(&after[width..]);
+        self.count(rest);
         self.nest(command, before.len());
         Ok(entry)
     }
