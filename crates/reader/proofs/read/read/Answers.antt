@@ -1,12 +1,9 @@
-use Rattle.std.proofs.Common.{◌≡◌, List, Ok, Err, vec_items, Result, sym, ap, ◌∙◌, subst}
+use Rattle.std.proofs.Common.{◌≡◌, List, Ok, Err, vec_items, sym, ap, ◌∙◌, subst}
 use Rattle.std.proofs.lemmas.Result.{err_from_is_err_and}
 use Rattle.record.specs.declared.command.Entry.{Entry}
-use Rattle.record.specs.declared.fault.ReadError.{ReadError}
-use Rattle.reader.specs.declared.listing.Listing.{Listing}
 use Rattle.reader.specs.Reading.{read}
-use Rattle.reader.specs.Records.{Reads}
 use Rattle.reader.specs.Rows.{Next}
-use Rattle.reader.proofs.Judging.{accepted, judged}
+use Rattle.reader.proofs.Judging.{accepted, refused}
 use Rattle.reader.proofs.Underway.{fault_read, finished_read, underway_more, unfinished_read}
 use Rattle.reader.proofs.read.read.Goals as goal
 use Rattle.reader.proofs.read.read.Goals.{In_ok-entry, In_ok-finish}
@@ -20,32 +17,26 @@ taken c =
 -- after Z, with nothing left and nothing open, the entries are the whole answer
 whole : (c : In_ok-finish) → Next c.loop-entries.reader c.next.new.self (vec_items c.loop-entries.entries) (Ok c.in_ok-entry.entry) → read c.args.source.now c.args.«record».now ≡ Ok (vec_items c.push.new.self)
 whole c told =
-    finished_read c.args.source.now c.args.«record».now (vec_items c.loop-entries.entries) c.loop-entries.reader c.next.new.self c.loop-entries.invariant c.in_ok-entry.entry told (sym c.is_end.ensures ∙ c.if-is_end.true) (vec_items c.push.new.self) c.in_ok-push.ensures.items c.in_ok-finish.ensures
+    finished_read _ _ _ _ c.next.new.self c.loop-entries.invariant c.in_ok-entry.entry told (sym c.is_end.ensures ∙ c.if-is_end.true) (vec_items c.push.new.self) c.in_ok-push.ensures.items c.in_ok-finish.ensures
 
 pub returns-in_err-entry : goal.returns-in_err-entry
 returns-in_err-entry c =
-    let es = vec_items c.loop-entries.entries in
     let N : List Entry → Type 0 = λ before. Next c.loop-entries.reader c.next.new.self before (Err c.in_err-entry.field-0.0) in
-    let next : N es = subst N c.as_slice.ensures.value c.in_err-entry.ensures in
     let p = err_from_is_err_and c.from_residual.result c.from_residual.ensures.1 in
-    let R : Result Listing ReadError → Type 0 = Reads c.args.source.now c.args.«record».now in
-    let reads : R c.from_residual.result =
-    subst R (sym (p.1 ∙ ap Err p.2))
-    (fault_read c.args.source.now c.args.«record».now es c.loop-entries.reader c.next.new.self c.loop-entries.invariant c.in_err-entry.field-0.0 next) in
-    record { reads = reads; judged = judged _ _ c.from_residual.result (λ i. (c.type_inv.«record» i).fits) reads }
+    let q = refused _ _ c.in_err-entry.field-0.0 c.from_residual.result (λ i. (c.type_inv.«record» i).fits) (p.1 ∙ ap Err p.2)
+    (fault_read _ _ _ _ c.next.new.self c.loop-entries.invariant c.in_err-entry.field-0.0 (subst N c.as_slice.ensures.value c.in_err-entry.ensures)) in
+    record { reads = q.0; judged = q.1 }
 
 pub returns-in_err-finish : goal.returns-in_err-finish
 returns-in_err-finish c =
     let p = err_from_is_err_and c.from_residual-in_err-finish.result c.from_residual-in_err-finish.ensures.1 in
-    let R : Result Listing ReadError → Type 0 = Reads c.args.source.now c.args.«record».now in
-    let reads : R c.from_residual-in_err-finish.result =
-    subst R (sym (p.1 ∙ ap Err p.2))
-    (unfinished_read c.args.source.now c.args.«record».now (vec_items c.loop-entries.entries) c.loop-entries.reader c.next.new.self c.loop-entries.invariant c.in_ok-entry.entry (taken (goal.at.returns-in_err-finish c).In_ok-entry) (sym c.is_end.ensures ∙ c.if-is_end.true) (vec_items c.push.new.self) c.in_ok-push.ensures.items c.in_err-finish.field-0.0 c.in_err-finish.ensures) in
-    record { reads = reads; judged = judged _ _ c.from_residual-in_err-finish.result (λ i. (c.type_inv.«record» i).fits) reads }
+    let q = refused _ _ c.in_err-finish.field-0.0 c.from_residual-in_err-finish.result (λ i. (c.type_inv.«record» i).fits) (p.1 ∙ ap Err p.2)
+    (unfinished_read _ _ _ _ c.next.new.self c.loop-entries.invariant c.in_ok-entry.entry (taken (goal.at.returns-in_err-finish c).In_ok-entry) (sym c.is_end.ensures ∙ c.if-is_end.true) (vec_items c.push.new.self) c.in_ok-push.ensures.items c.in_err-finish.field-0.0 c.in_err-finish.ensures) in
+    record { reads = q.0; judged = q.1 }
 
 pub loop-entries-preserved : goal.loop-entries-preserved
 loop-entries-preserved c =
-    underway_more c.args.source.now c.args.«record».now (vec_items c.loop-entries.entries) c.loop-entries.reader c.next.new.self c.loop-entries.invariant c.in_ok-entry.entry (taken (goal.at.loop-entries-preserved c).In_ok-entry) (vec_items c.push.new.self) (sym c.is_end.ensures ∙ c.if-is_end.false) c.in_ok-push.ensures.items
+    underway_more _ _ _ _ c.next.new.self c.loop-entries.invariant c.in_ok-entry.entry (taken (goal.at.loop-entries-preserved c).In_ok-entry) (vec_items c.push.new.self) (sym c.is_end.ensures ∙ c.if-is_end.false) c.in_ok-push.ensures.items
 
 pub invariant_of-result : goal.invariant_of-result
 invariant_of-result c =
