@@ -8,23 +8,20 @@ use Rattle.reader.proofs.state.Reader.step.Goals as goal
 
 pub returns-in_err-check : goal.returns-in_err-check
 returns-in_err-check c =
-    let r = c.args.self.now in
     let p = err_from_is_err_and c.from_residual.result c.from_residual.ensures.1 in
-    refused_operands r c.args.before.now c.in-Some.layout (omega (arith, ltb-false)) c.in-Some.ensures.row c.in-Some-get.ensures.lookup.0.0 r c.command-command.result c.command-command.ensures c.from_residual.result c.in_err-check.field-0.0 (p.1 ∙ ap Err p.2) c.in_err-check.ensures refl
+    refused_operands c.args.self.now _ _ (omega (arith, ltb-false)) c.in-Some.ensures.row c.in-Some-get.ensures.lookup.0.0 _ _ c.command-command.ensures _ _ (p.1 ∙ ap Err p.2) c.in_err-check.ensures refl
 
 pub returns-in_err-admit : goal.returns-in_err-admit
 returns-in_err-admit c =
-    let r = c.args.self.now in
     let p = err_from_is_err_and c.from_residual-in_err-admit.result c.from_residual-in_err-admit.ensures.1 in
-    refused_place r c.args.before.now c.in-Some.layout (omega (arith, ltb-false)) c.in-Some.ensures.row c.in-Some-get.ensures.lookup.0.0 r c.command-command.result c.command-command.ensures c.from_residual-in_err-admit.result c.in_err-admit.field-0.0 (p.1 ∙ ap Err p.2) c.in_ok-check.ensures c.in_err-admit.ensures refl
+    refused_place c.args.self.now _ _ (omega (arith, ltb-false)) c.in-Some.ensures.row c.in-Some-get.ensures.lookup.0.0 _ _ c.command-command.ensures _ _ (p.1 ∙ ap Err p.2) c.in_ok-check.ensures c.in_err-admit.ensures refl
 
 pub returns : goal.returns
 returns c =
-    let r = c.args.self.now in
-    let n = length c.args.before.now in
-    let x = c.command-command.result in
     let first = c.count.ensures in
     let then = c.nest.ensures in
-    stepped r c.args.before.now c.in-Some.layout (omega (arith, ltb-false)) c.in-Some.ensures.row c.in-Some-get.ensures.lookup.0.0 c.nest.new.self x c.command-command.ensures c.here-entry.result c.here-entry.ensures c.in_ok-check.ensures c.in_ok-admit.ensures.0
-    (then.stands ∙ ap (λ (s : Standing). after n s x) first.stands)
-    record { source = then.moved.source ∙ first.moved.source; bytes = then.moved.bytes ∙ first.moved.bytes; rest = then.moved.rest ∙ first.moved.rest ∙ c.in-Some-get.ensures.lookup.0.2 }
+    let turned : Standing → Standing = λ s. after (length c.args.before.now) s c.command-command.result in
+    let left = c.in-Some-get.ensures.lookup.0 in
+    stepped c.args.self.now _ _ (omega (arith, ltb-false)) c.in-Some.ensures.row left.0 _ _ c.command-command.ensures _ c.here-entry.ensures c.in_ok-check.ensures c.in_ok-admit.ensures.0
+    (then.stands ∙ ap turned first.stands)
+    record { source = then.moved.source ∙ first.moved.source; bytes = then.moved.bytes ∙ first.moved.bytes; rest = then.moved.rest ∙ first.moved.rest ∙ left.2 }
