@@ -46,6 +46,15 @@ neither : (a b : Option Reason) → or_else a b ≡ None → (a ≡ None) × (b 
 neither None b e = (refl, e)
 neither (Some r) b e = absurd (none-some _ (sym e))
 
+-- a question that gives no reason was answered well
+none_true : {X : Type 0} (t : Bool) (x : X) → cond t None (Some x) ≡ None → t ≡ true
+none_true true x e = refl
+none_true false x e = absurd (none-some _ (sym e))
+
+none_false : {X : Type 0} (t : Bool) (x : X) → cond t (Some x) None ≡ None → t ≡ false
+none_false true x e = absurd (none-some _ (sym e))
+none_false false x e = refl
+
 -- ---- operands
 
 part_ok : (source : List ℕ) (p : Part) → part_fault source p ≡ None → TextInside source p
@@ -76,22 +85,18 @@ text_back source (Some p) h = ap not_text (part_back source p h)
 
 span_ok : (source : List ℕ) (o : Option Span) → asks_span source o ≡ None → Holds (Lawful source) o
 span_ok source None e = tt
-span_ok source (Some s) e = go (lawful_in source s) refl e
-  where
-    go : (t : Bool) → lawful_in source s ≡ t → cond t None (Some NotLawful) ≡ None → Lawful source s
-    go true t f =
-        let count = breaks source + 1 in
-        let ends = leb s.from s.to && leb s.to (length source) in
-        let a = and_parts (leb 1 s.start_line) (leb s.start_line count && ends) t in
-        let b = and_parts (leb s.start_line count) ends a.1 in
-        let c = and_parts (leb s.from s.to) (leb s.to (length source)) b.1 in
-        record {
-          first = leb-true _ _ a.0;
-          last = omega (arith, leb-true s.start_line count b.0, length_lines source);
-          forward = leb-true _ _ c.0;
-          inside = leb-true _ _ c.1;
-        }
-    go false t f = absurd (none-some _ (sym f))
+span_ok source (Some s) e =
+    let count = breaks source + 1 in
+    let ends = leb s.from s.to && leb s.to (length source) in
+    let a = and_parts (leb 1 s.start_line) (leb s.start_line count && ends) (none_true (lawful_in source s) NotLawful e) in
+    let b = and_parts (leb s.start_line count) ends a.1 in
+    let c = and_parts (leb s.from s.to) (leb s.to (length source)) b.1 in
+    record {
+      first = leb-true _ _ a.0;
+      last = omega (arith, leb-true s.start_line count b.0, length_lines source);
+      forward = leb-true _ _ c.0;
+      inside = leb-true _ _ c.1;
+    }
 
 span_back : (source : List ℕ) (o : Option Span) → Holds (Lawful source) o → asks_span source o ≡ None
 span_back source None h = refl
@@ -128,17 +133,11 @@ declared_among : (source : List ℕ) (kind : Container) (name : List ℕ) (es : 
 declared_among source kind name [] = refl
 declared_among source kind name (e ∷ es) = ap (λ (t : Bool). opens_named source kind name (opens e.command) || t) (declared_among source kind name es)
 
-allowed_ok : (t : Bool) → cond t None (Some Misplaced) ≡ None → t ≡ true
-allowed_ok true e = refl
-allowed_ok false e = absurd (none-some _ (sym e))
-
 new_ok : (source : List ℕ) (es : List Entry) (o : Option (Container × Part)) → asks_new source es o ≡ None → Holds (λ q. among source q.0 (part_bytes source q.1) (commands_of es) ≡ false) o
 new_ok source es None e = tt
-new_ok source es (Some q) e = sym (declared_among source q.0 (part_bytes source q.1) es) ∙ go_new (declared source q.0 (part_bytes source q.1) es) e
-  where
-    go_new : (t : Bool) → cond t (Some Repeated) None ≡ None → t ≡ false
-    go_new true f = absurd (none-some _ (sym f))
-    go_new false f = refl
+new_ok source es (Some q) e =
+    let known = declared source q.0 (part_bytes source q.1) es in
+    sym (declared_among source q.0 (part_bytes source q.1) es) ∙ none_false known Repeated e
 
 new_back : (source : List ℕ) (es : List Entry) (o : Option (Container × Part)) → Holds (λ q. among source q.0 (part_bytes source q.1) (commands_of es) ≡ false) o → asks_new source es o ≡ None
 new_back source es None h = refl
@@ -146,11 +145,9 @@ new_back source es (Some q) h = cond-false _ _ _ (declared_among source q.0 (par
 
 depth_ok : (rows : List Nest) (o : Option (Container × Part)) → asks_depth rows o ≡ None → Holds (λ _. length (kinds rows) < 16) o
 depth_ok rows None e = tt
-depth_ok rows (Some q) e = go_deep (ltb (length rows) 16) refl e
-  where
-    go_deep : (t : Bool) → ltb (length rows) 16 ≡ t → cond t None (Some TooDeep) ≡ None → length (kinds rows) < 16
-    go_deep true t f = omega (arith, ltb-true (length rows) 16 t, length-map rows (λ (r : Nest). r.container))
-    go_deep false t f = absurd (none-some _ (sym f))
+depth_ok rows (Some q) e =
+    let few = ltb-true (length rows) 16 (none_true (ltb (length rows) 16) TooDeep e) in
+    omega (arith, few, length-map rows (λ (r : Nest). r.container))
 
 depth_back : (rows : List Nest) (o : Option (Container × Part)) → Holds (λ _. length (kinds rows) < 16) o → asks_depth rows o ≡ None
 depth_back rows None h = refl
@@ -181,7 +178,7 @@ module _ (source : List ℕ) (es : List Entry) (s : Standing) (c : Command) (non
   place_parts =
       let a = neither (cond (allowed (stands (length es) s.rows) c) None (Some Misplaced)) (or_else (asks_new source es (opens c)) (asks_depth s.rows (opens c))) fault_parts.1 in
       let b = neither (asks_new source es (opens c)) (asks_depth s.rows (opens c)) a.1 in
-      (allowed_ok _ a.0, b.0, b.1)
+      (none_true _ Misplaced a.0, b.0, b.1)
 
 chain_sound : (source : List ℕ) (es : List Entry) (s : Standing) (cs : List Command) (out : List Entry) → Chain source es s cs out → SoundChain source es s cs
 chain_sound source es s cs out (last es₁ s₁ c t none nothing) =
