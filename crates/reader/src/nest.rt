@@ -4,7 +4,8 @@ ghost use Rattle.reader.specs.Questions.{in_container};
 
 use record::command::Container;
 
-// An open container: what it is, the place of its opener in the list of commands, and how many commands stand directly in it so far.
+// An open container: what it is, the place of its opener in the list of commands, and how many
+// commands stand directly in it so far.
 #[derive(Clone, Copy)]
 pub struct Nest {
     pub container: Container,
@@ -12,7 +13,8 @@ pub struct Nest {
     pub commands: usize,
 }
 
-// What stands open, as far as a command asks: whether it is the first of all, and else the innermost container.
+// What stands open, as far as a command asks: whether it is the first of all, and else the
+// innermost container.
 #[derive(Clone, Copy)]
 pub enum Stands {
     First,

@@ -70,7 +70,8 @@ impl<'a> Reader<'a> {
         }
     }
 
-    // Asks of the place: whether the command may stand here, and of what it opens whether its name is new and fewer than 16 open.
+    // Asks of the place: whether the command may stand here, and, where it opens a container,
+    // whether its name is new of its kind and fewer than 16 are open.
     fn admit(&self, command: Command, before: &[Entry]) -> Result<(), Reason>
         ensures { Admitted self.now before.now command result }
     {
@@ -96,7 +97,8 @@ impl<'a> Reader<'a> {
         }
     }
 
-    // Asks of the operands: whether the part is text inside the source, and whether the span is lawful.
+    // Asks of the operands: whether the part is text inside the source, and whether the span is
+    // lawful.
     fn check(&self, command: Command) -> Result<(), Reason>
         ensures { Checked self.now.source.now command result }
     {
@@ -111,7 +113,8 @@ impl<'a> Reader<'a> {
         Ok(())
     }
 
-    // One command more stands in the innermost container, or in the body, and `rest` is left of the record.
+    // One command more stands in the innermost container, or in the body, and `rest` is left of the
+    // record.
     fn count(&mut self, rest: &'a [u8])
         requires { length rest.now < length self.old.rest.now }
         ensures stands { standing self.new ≡ counted (standing self.old).rows (standing self.old).body }
@@ -129,17 +132,17 @@ impl<'a> Reader<'a> {
         }
     }
 
-    // What the command opens is opened, and what it closes is closed; `place` commands were read before it.
-    fn nest(&mut self, command: Command, place: usize)
+    // What the command opens is opened, and what it closes is closed. It is the command at `index`.
+    fn open_or_close(&mut self, command: Command, index: usize)
         requires { HasRoom self.old.depth command }
-        ensures stands { standing self.new ≡ after place (standing self.old) command }
+        ensures stands { standing self.new ≡ after index (standing self.old) command }
         ensures moved { Moved self.old self.new self.old.rest.now }
     {
         match command {
             Command::Open(opener, _) => {
                 self.nests[self.depth] = Nest {
                     container: opener.container(),
-                    opener: place,
+                    opener: index,
                     commands: 0,
                 };
                 self.depth += 1;
@@ -170,7 +173,7 @@ impl<'a> Reader<'a> {
         self.admit(command, before)?;
         let entry = self.here(command);
         self.count(rest);
-        self.nest(command, before.len());
+        self.open_or_close(command, before.len());
         Ok(entry)
     }
 

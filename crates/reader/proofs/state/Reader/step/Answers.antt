@@ -19,7 +19,7 @@ returns-in_err-admit c =
 pub returns : goal.returns
 returns c =
     let first = c.count.ensures in
-    let then = c.nest.ensures in
+    let then = c.open_or_close.ensures in
     let turned : Standing → Standing = λ s. after (length c.args.before.now) s c.command-command.result in
     let left = c.in-Some-get.ensures.lookup.0 in
     stepped c.args.self.now _ _ (omega (arith, ltb-false)) c.in-Some.ensures.row left.0 _ _ c.command-command.ensures _ c.here-entry.ensures c.in_ok-check.ensures c.in_ok-admit.ensures.0
