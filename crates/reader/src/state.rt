@@ -22,8 +22,8 @@ pub struct Reader<'a> {
     pub(crate) body: usize,
     ghost all_lines: { lines ≡ breaks source.now + 1 },
     ghost room: { depth ≤ 16 },
-    // Each command takes a byte at least, so what is read of the record bounds every count, and none
-    // can overflow.
+    // Each command takes a byte at least, so what is read of the record bounds every count, and no
+    // count can overflow.
     ghost part: { length rest.now ≤ length bytes.now },
     ghost body_within: { body + length rest.now ≤ length bytes.now },
     ghost nests_within: { All (λ (n : Nest). n.commands + length rest.now ≤ length bytes.now) nests },
