@@ -43,9 +43,9 @@ HasRoom depth Close = 0 < depth
 HasRoom depth End = Unit {0}
 
 -- what asking a command about its place answers
-abbrev pub Admitted : Reader → List Entry → Command → Result (Unit {0}) Reason → Type 0
-Admitted r before c (Ok u) = (place_fault r.source.now before (standing r).rows c ≡ None) × HasRoom r.depth c
-Admitted r before c (Err reason) = place_fault r.source.now before (standing r).rows c ≡ Some reason
+abbrev pub Permitted : Reader → List Entry → Command → Result (Unit {0}) Reason → Type 0
+Permitted r before c (Ok u) = (place_fault r.source.now before (standing r).rows c ≡ None) × HasRoom r.depth c
+Permitted r before c (Err reason) = place_fault r.source.now before (standing r).rows c ≡ Some reason
 
 -- what the next command answers, and what then stands; `rest` is what was left of the record
 abbrev pub Stepped : Reader → Reader → List Entry → List ℕ → Result Entry Reason → Type 0

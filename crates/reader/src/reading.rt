@@ -2,7 +2,7 @@
 ghost use Rattle.std.specs.Prelude.{◌≡◌, ◌+◌, ◌<◌, ◌≤◌, length, slice_get};
 ghost use Rattle.reader.specs.Questions.{Checked, declared, may_open, stands};
 ghost use Rattle.reader.specs.Reading.{after, counted, entry};
-ghost use Rattle.reader.specs.Rows.{Admitted, Finished, Fresh, HasRoom, Moved, Next, Stepped, position, standing};
+ghost use Rattle.reader.specs.Rows.{Finished, Fresh, HasRoom, Moved, Next, Permitted, Stepped, position, standing};
 
 use crate::commands::command;
 use crate::nest::{Nest, Stands};
@@ -73,7 +73,7 @@ impl<'a> Reader<'a> {
     // Asks of the place: whether the command may stand here, and, where it opens a container,
     // whether its name is new of its kind and fewer than 16 are open.
     fn admit(&self, command: Command, before: &[Entry]) -> Result<(), Reason>
-        ensures { Admitted self.now before.now command result }
+        ensures { Permitted self.now before.now command result }
     {
         match (command, self.stands(before)) {
             (Command::Extends(_), Stands::First) => Ok(()),
@@ -199,10 +199,9 @@ impl<'a> Reader<'a> {
         ensures { Finished self.now result }
     {
         if self.depth > 0 || !self.rest.is_empty() {
-            let at = self.position();
             return Err(RecordFault {
                 reason: Reason::Unfinished,
-                at,
+                at: self.position(),
             });
         }
         Ok(())
