@@ -9,4 +9,4 @@ returns-else-self-ge-DEEPEST c =
     let known = rw (c.container-kind.ensures, c.bytes.ensures) at c.declared.ensures in
     let deep = length_rows r.depth r.nests in
     let few = c.if-self-ge-DEEPEST.false in
-    rw c.in-Open-default.is-0 (may_enter _ _ _ (sym may ∙ c.if-not-may_open.false) (sym known ∙ c.if-declared.false) (omega (arith, deep, few)), few)
+    rw c.in-Open-default.is-0 (may_enter _ _ _ (sym may ∙ c.if-not-may_open.false) (sym known ∙ c.if-declared.false) (omega (arith, deep, few)), omega (arith, few))
