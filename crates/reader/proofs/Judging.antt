@@ -1,5 +1,5 @@
 -- A record is read to its end exactly where its commands are well formed. Assumes nothing.
-use Rattle.std.proofs.Common.{◌≡◌, ℕ, suc, ◌+◌, ◌<◌, Bool, true, false, cond, ◌&&◌, ◌||◌, ltb, leb, List, [], ◌∷◌, ◌++◌, map, length, Some, None, Ok, Err, Option, Result, sym, refl, ap, ◌∙◌, subst, arith}
+use Rattle.std.proofs.Common.{◌≡◌, ℕ, suc, ◌+◌, ◌<◌, Bool, true, false, cond, ◌&&◌, ◌||◌, ltb, leb, ◌==◌, List, [], ◌∷◌, ◌++◌, map, length, Some, None, Ok, Err, Option, Result, sym, refl, ap, ◌∙◌, subst, arith}
 use Rattle.std.specs.List.{AllByRecursion}
 use Rattle.std.proofs.lemmas.List.{append_assoc, length-map, length_push, map_push}
 use Rattle.std.proofs.lemmas.Option.{none-some}
@@ -13,7 +13,7 @@ use Rattle.text.specs.declared.fault.TextFault.TheVariants.{Outside, NotUtf8}
 use Rattle.text.specs.declared.part.Part.{Part}
 use Rattle.text.specs.declared.span.Span.{Span}
 use Rattle.text.proofs.Decoding.{utf8_decides}
-use Rattle.text.proofs.Division.{length_lines}
+use Rattle.std.proofs.lemmas.List.Splits.{length-slice_split}
 use Rattle.record.specs.declared.command.Command.{Command}
 use Rattle.record.specs.declared.command.Command.TheVariants.{Extends, Open, Refer, Variable, Text, Close, End}
 use Rattle.record.specs.declared.command.Container.{Container}
@@ -93,7 +93,7 @@ span_ok source (Some s) e =
     let c = and_parts (leb s.from s.to) (leb s.to (length source)) b.1 in
     record {
       first = leb-true _ _ a.0;
-      last = omega (arith, leb-true s.start_line count b.0, length_lines source);
+      last = omega (arith, leb-true s.start_line count b.0, length-slice_split (λ b. b == 10) source);
       forward = leb-true _ _ c.0;
       inside = leb-true _ _ c.1;
     }
@@ -102,7 +102,7 @@ span_back : (source : List ℕ) (o : Option Span) → Holds (Lawful source) o �
 span_back source None h = refl
 span_back source (Some s) h =
     cond-true (lawful_in source s) None (Some NotLawful)
-    (and_from _ _ (le-leb _ _ h.first) (and_from _ _ (le-leb _ _ (omega (arith, h.last, length_lines source))) (and_from _ _ (le-leb _ _ h.forward) (le-leb _ _ h.inside))))
+    (and_from _ _ (le-leb _ _ h.first) (and_from _ _ (le-leb _ _ (omega (arith, h.last, length-slice_split (λ b. b == 10) source))) (and_from _ _ (le-leb _ _ h.forward) (le-leb _ _ h.inside))))
 
 -- ---- places
 

@@ -1,4 +1,3 @@
 pub mod Cut
 pub mod Decoding
-pub mod Division
 pub mod Ordered
