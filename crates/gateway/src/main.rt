@@ -8,7 +8,7 @@ mod shown;
 use builtin::Builtin;
 use catalogue::{Catalogue, Kind, Overlay, Registry};
 use samples::{CUT_TEXT, FRAME, LINE_ZERO, METER, MUTE, TWO_OPEN};
-use show::template;
+use show::Show;
 use std::io;
 
 fn main(rt: HostRuntime) -> io::Result<()> {
@@ -24,16 +24,21 @@ fn main(rt: HostRuntime) -> io::Result<()> {
             println!(rt; "register refused {number}")?;
         }
     }
+    let show = Show {
+        rt: &rt,
+        heap: rt.alloc(),
+        names: &names,
+    };
     println!(rt; "")?;
     println!(rt;
         "A frame, a profile that widens its tail and calls up to it, and one that forgets to."
     )?;
-    template(&rt, rt.alloc(), &names, FRAME)?;
-    template(&rt, rt.alloc(), &names, METER)?;
-    template(&rt, rt.alloc(), &names, MUTE)?;
+    show.template(FRAME)?;
+    show.template(METER)?;
+    show.template(MUTE)?;
     println!(rt; "")?;
     println!(rt; "Three damaged records.")?;
-    template(&rt, rt.alloc(), &names, TWO_OPEN)?;
-    template(&rt, rt.alloc(), &names, CUT_TEXT)?;
-    template(&rt, rt.alloc(), &names, LINE_ZERO)
+    show.template(TWO_OPEN)?;
+    show.template(CUT_TEXT)?;
+    show.template(LINE_ZERO)
 }

@@ -14,7 +14,8 @@ mod tests {
     use text::lines::{line, line_count};
     use text::name::Name;
 
-    // Whether the reader takes the record, or the fault; want of memory fails the test.
+    // Whether the reader takes the record, or the fault; want of memory fails the test. Source and
+    // record are passed here and below as `read` takes them.
     fn judged(heap: Global, source: &str, bytes: &[u8]) -> Result<Result<(), RecordFault>, Fail> {
         match read(heap, source, bytes) {
             Ok(_) => Ok(Ok(())),
@@ -201,9 +202,7 @@ mod tests {
         for i in 0..depth {
             bytes.extend_from_slice(&[b'b', 0, i, 1])?;
         }
-        for _ in 0..depth {
-            bytes.push(b'E')?;
-        }
+        bytes.extend_from_slice(b"E".repeat(heap, usize::from(depth))?.as_slice())?;
         bytes.push(b'Z')?;
         Ok(bytes)
     }
@@ -226,10 +225,7 @@ mod tests {
     #[test]
     fn names_of_255_and_256_bytes(rt: HostRuntime) -> Result<(), Fail> {
         let heap = rt.alloc();
-        let mut source = String::new(heap);
-        for _ in 0..256 {
-            source.push('n')?;
-        }
+        let source = "n".repeat(heap, 256)?;
         assert!(rt; Name::new(source.as_bytes()).is_err());
         assert!(rt; source.len() == 256);
         let longest = &source.as_bytes()[0..255];
