@@ -43,21 +43,17 @@ impl<P: Print, C: Catalogue> Show<'_, P, C> {
     fn commands(&self, listing: &Listing) -> io::Result<()> {
         println!(self.rt; "  commands")?;
         let source = listing.source();
-        let mut depth: usize = 0;
+        let mut indent: usize = 0;
         for (i, entry) in listing.entries().iter().enumerate() {
             let command = ShownCommand {
                 source,
                 command: entry.command,
             };
             let place = ShownPlace(*entry);
-            print!(self.rt; "  {i:>4} ")?;
-            for _ in 0..depth {
-                print!(self.rt; "  ")?;
-            }
-            println!(self.rt; "{command}  ({place})")?;
+            println!(self.rt; "  {i:>4} {:indent$}{command}  ({place})", "")?;
             match entry.command {
-                Command::Open(_, _) => depth = depth.saturating_add(1),
-                Command::Close => depth = depth.saturating_sub(1),
+                Command::Open(_, _) => indent = indent.saturating_add(2),
+                Command::Close => indent = indent.saturating_sub(2),
                 _ => {}
             }
         }
