@@ -44,7 +44,7 @@ def blocks(opening):
             for later in lines[at + 1 :]:
                 code = later.split("//")[0].rstrip()
                 if not began:
-                    began = code.strip() in ("{", "where") and code.strip() == "{"
+                    began = code.strip() == "{"
                     continue
                 if code.startswith(" " * indent + "}"):
                     break

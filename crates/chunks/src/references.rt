@@ -1,7 +1,7 @@
 // What a template refers to, its parent, its variables and its containers.
 //
-// Lists are asked of a listing and an allocator: a listing is read without one, and its own methods
-// stand with it in the crate `reader`, so these are functions.
+// What makes a list takes the listing and an allocator. These are functions, since the methods of
+// `Listing` stand in its own crate, `reader`.
 ghost use Rattle.std.specs.Prelude.{◌≡◌, IfOk};
 ghost use Rattle.std.specs.List.{filter_map};
 ghost use Rattle.reader.specs.Places.{commands_of};
@@ -51,8 +51,8 @@ pub fn references(heap: Global, listing: &Listing) -> Result<Vec<Call>, AllocErr
         .collect(heap)
 }
 
-// The variable that the command reads at the top level. Beside `extended` a function of its own: the
-// two tell two cases apart, and a case is no parameter.
+// The variable that the command reads at the top level. `variable` and `extended` stay two functions:
+// each matches a case, and a case cannot be a parameter.
 pub fn variable(command: Command) -> Option<Part>
     ensures { result ≡ variable_of command }
 {
@@ -70,7 +70,7 @@ pub fn variables(heap: Global, listing: &Listing) -> Result<Vec<Part>, AllocErro
         .entries()
         .iter()
         .map(|entry| entry.command)
-        .filter_map(|command| variable(command))
+        .filter_map(variable)
         .collect(heap)
 }
 

@@ -13,7 +13,7 @@ use record::letter::Reference;
 use std::alloc::Global;
 use std::io;
 
-// Where the program prints, with what it asks for memory, and whose names it looks up.
+// What the printing functions share: the runtime, the allocator and the catalogue.
 #[derive(Drop)]
 pub struct Show<'a, P, C> {
     pub rt: &'a P,
@@ -119,9 +119,9 @@ impl<P: Print, C: Catalogue> Show<'_, P, C> {
     }
 }
 
-// The kind under which a catalogue knows what is referred to. Components and templates are not
-// its own. A function, since a conversion would have to stand in the crate of one of the two types,
-// and neither of these knows the other.
+// The kind under which a catalogue knows what is referred to: catalogues have no components and no
+// templates. No `TryFrom`, which would have to stand in the crate of one of the two types, and
+// neither of these crates knows the other.
 fn host_kind(reference: Reference) -> Option<Kind> {
     match reference {
         Reference::Filter => Some(Kind::Filter),

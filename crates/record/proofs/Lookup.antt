@@ -1,7 +1,8 @@
 -- The table of the commands, row by row. Assumes nothing.
-use Rattle.std.proofs.Common.{◌≡◌, ℕ, Bool, true, false, cond, eqb, ◌==◌, find, List, [], ◌∷◌, map, Some, Option, sym, refl, ap, ◌∙◌, arith}
+use Rattle.std.proofs.Common.{◌≡◌, ℕ, Bool, true, false, cond, eqb, ◌==◌, find, List, [], ◌∷◌, map, Some, Option, sym, refl, ap, ◌∙◌}
 use Rattle.std.specs.Option.{option_map}
 use Rattle.std.proofs.lemmas.Bool.{eqb-true}
+use Rattle.std.proofs.lemmas.Option.{none-some}
 use Rattle.record.specs.declared.letter.Layout.{Layout}
 use Rattle.record.specs.declared.letter.Letter.{Letter}
 use Rattle.record.specs.declared.letter.Letter.TheVariants.{Extends, Block, PlainBlock, Component, Refer, Variable, Text, Close, End}
@@ -56,7 +57,7 @@ letter_known Close = refl
 letter_known End = refl
 
 found : (n : ℕ) (ls : List Letter) (l : Letter) → letter_in n ls ≡ Some l → letter_byte l ≡ n
-found n [] l e = absurd (let z : ◌≡◌ {A = ℕ} 0 1 = cc in omega arith)
+found n [] l e = absurd (none-some l e)
 found n (k ∷ ls) l e = go (eqb (letter_byte k) n) refl e (found n ls l)
   where
     go : (t : Bool) → eqb (letter_byte k) n ≡ t → cond t (Some k) (letter_in n ls) ≡ Some l → (letter_in n ls ≡ Some l → letter_byte l ≡ n) → letter_byte l ≡ n

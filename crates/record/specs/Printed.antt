@@ -1,4 +1,4 @@
--- How kinds and refusals are printed. Assumes nothing.
+-- How kinds and refusals are printed.
 use Rattle.std.specs.Prelude.{ℕ, List, ◌++◌, codes}
 use Rattle.std.specs.Fmt.{decimal}
 use Rattle.record.specs.declared.command.Container.{Container}

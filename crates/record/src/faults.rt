@@ -55,7 +55,7 @@ impl From<RecordFault> for ReadError {
 impl From<AllocError> for ReadError {
     ghost from_gives = { λ _ r. r ≡ Memory };
 
-    fn from(_e: AllocError) -> ReadError {
+    fn from(_: AllocError) -> ReadError {
         ReadError::Memory
     }
 }
@@ -63,7 +63,7 @@ impl From<AllocError> for ReadError {
 impl<T: Drop> From<AllocFailed<T>> for ReadError {
     ghost from_gives = { λ _ r. r ≡ Memory };
 
-    fn from(_e: AllocFailed<T>) -> ReadError {
+    fn from(_: AllocFailed<T>) -> ReadError {
         ReadError::Memory
     }
 }

@@ -1,7 +1,7 @@
 // What the thirteen command bytes stand for.
 
 // What a template refers to by name.
-#[derive(Clone, Copy, PartialEq, Eq)]
+#[derive(Clone, Copy)]
 pub enum Reference {
     Filter,
     Test,

@@ -12,8 +12,7 @@ impl Opener {
         ensures { result ≡ container_of self }
     {
         match self {
-            Opener::Block(_) => Container::Block,
-            Opener::PlainBlock => Container::Block,
+            Opener::Block(_) | Opener::PlainBlock => Container::Block,
             Opener::Component => Container::Component,
         }
     }
@@ -25,13 +24,12 @@ impl Command {
         ensures { result ≡ part_of self }
     {
         match self {
-            Command::Extends(name) => Some(name),
-            Command::Open(_, name) => Some(name),
-            Command::Refer(_, name, _) => Some(name),
-            Command::Variable(name) => Some(name),
-            Command::Text(text) => Some(text),
-            Command::Close => None,
-            Command::End => None,
+            Command::Extends(part)
+            | Command::Open(_, part)
+            | Command::Refer(_, part, _)
+            | Command::Variable(part)
+            | Command::Text(part) => Some(part),
+            Command::Close | Command::End => None,
         }
     }
 

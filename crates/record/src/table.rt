@@ -4,7 +4,7 @@ ghost use Rattle.record.specs.Letters.{Rule, layout_at};
 
 use crate::letter::{Layout, Letter, Reference};
 
-// A constant of thirteen rows: the published table, kept as it is read beside the format.
+// The published table, row by row: a constant, to be read beside the format.
 const LAYOUTS: [Layout; 13] = [
     Layout {
         byte: b'X',
@@ -99,6 +99,8 @@ const LAYOUTS: [Layout; 13] = [
     },
 ];
 
+// The row that has this byte. Apart from `layout`, so that its clause speaks of the table as it is
+// written.
 fn row_of(byte: u8) -> Option<Layout>
     ensures { result ≡ find (λ row. row.byte == byte) LAYOUTS }
 {

@@ -3,11 +3,11 @@ use Rattle.std.proofs.Common.{◌≡◌, ℕ, ◌-◌, min, List, ◌++◌, leng
 use Rattle.std.proofs.lemmas.List.{take_at, take_min, take_rest, drop_min}
 
 -- a part of a part from the start on, both moved back
-pub clip : {X : Type 0} (xs : List X) (start n from most : ℕ) → from ≡ min start (length xs) → most ≡ min n (length (take (length xs - from) (drop from xs))) → take (most - 0) (take (length xs - from) (drop from xs)) ≡ take n (drop start xs)
+pub clip : {X : Type 0} (xs : List X) (start n from most : ℕ) → from ≡ min start (length xs) → most ≡ min n (length (take (length xs - from) (drop from xs))) → take most (take (length xs - from) (drop from xs)) ≡ take n (drop start xs)
 clip xs start n from most f m =
     let rest = take (length xs - from) (drop from xs) in
     let all : rest ≡ drop start xs = take_rest xs from ∙ ap (λ k. drop k xs) f ∙ drop_min start xs in
-    let end : most - 0 ≡ min n (length rest) = omega arith in
+    let end : most ≡ min n (length rest) = omega arith in
     ap (λ k. take k rest) end ∙ take_min n rest ∙ ap (take n) all
 
 -- the front of a list into which bs was copied

@@ -1,8 +1,8 @@
 -- The test `utf8` and the library's `IsUtf8` say the same. Assumes nothing.
-use Rattle.std.proofs.Common.{◌≡◌, ℕ, false, List, IsUtf8, Decides, ⊎_elim}
+use Rattle.std.proofs.Common.{ℕ, List, IsUtf8, Decides}
 use Rattle.std.specs.Str.{all_scalars, bytes_eq, chars, encode_utf8_all}
 use Rattle.std.proofs.lemmas.Slice.Eq.{bytes_eq-Decides}
-use Rattle.std.proofs.lemmas.Bool.{and_parts, and_from, cases_Bool}
+use Rattle.std.proofs.lemmas.Bool.{and_parts, and_from}
 use Rattle.std.proofs.lemmas.Str.{encodes-chars, scalars-chars}
 use Rattle.text.specs.Utf8.{utf8}
 
@@ -13,6 +13,3 @@ utf8_decides bs = (
       (chars bs, (p.0, (bytes_eq-Decides (encode_utf8_all (chars bs)) bs).0 p.1)),
   λ u. and_from _ _ (scalars-chars bs u) ((bytes_eq-Decides (encode_utf8_all (chars bs)) bs).1 (encodes-chars bs u)),
 )
-
-pub not_utf8 : (bs : List ℕ) → (IsUtf8 bs → ⊥) → utf8 bs ≡ false
-not_utf8 bs no_text = ⊎_elim (λ e. absurd (no_text ((utf8_decides bs).0 e))) (λ e. e) (cases_Bool (utf8 bs))

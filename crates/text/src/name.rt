@@ -2,8 +2,8 @@
 ghost use Rattle.std.specs.Prelude.{◌≡◌, true, take};
 ghost use Rattle.text.specs.Utf8.{utf8};
 
-// An array with a length, since memory is fixed: a vector would ask for memory, and the library's
-// vector in an array is no `Copy`, which a name is.
+// An array with its length, since memory is fixed: a `Vec` would ask for memory, and the kit's
+// `ArrayVec` is not `Copy`, as a name is.
 #[derive(Clone, Copy)]
 pub struct Name {
     pub(crate) len: u8,

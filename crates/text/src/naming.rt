@@ -81,8 +81,9 @@ impl Ord for Name {
     }
 }
 
-// The order of names is total, ties only where the bytes are the same, and puts a beginning before the longer name.
-// The number that is given back says nothing, and stays, since a public function keeps its signature.
+// The order of names is total, ties only where the bytes are the same, and puts a beginning before
+// the longer name. The number that is given back says nothing: it stays, since a public function
+// keeps its signature.
 pub fn names_are_ordered() -> u8
     ensures { NamesInOrder }
 {

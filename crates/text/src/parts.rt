@@ -1,4 +1,5 @@
-// What a part names in a source. Its numbers become places by `as`: no `From` leads from `u32` to `usize`.
+// What a part names in a source. Its numbers become places by `as`: no `From` leads from `u32` to
+// `usize`.
 ghost use Rattle.std.specs.Prelude.{◌≡◌};
 ghost use Rattle.text.specs.Texts.{PartText, part_bytes};
 
@@ -14,7 +15,7 @@ impl Part {
         let start = (self.start as usize).min(source.len());
         let rest = &source[start..];
         let len = (self.len as usize).min(rest.len());
-        &rest[0..len]
+        &rest[..len]
     }
 
     // The text that the part names, or what is wrong with it.

@@ -1,4 +1,4 @@
-// When a span is lawful. Its numbers are compared with places by `as`: no `From` leads from `u32` to `usize`.
+// When a span is lawful. Its numbers become places by `as`: no `From` leads from `u32` to `usize`.
 ghost use Rattle.std.specs.Prelude.{◌≡◌};
 ghost use Rattle.text.specs.Spans.{lawful};
 
