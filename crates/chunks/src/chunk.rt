@@ -16,7 +16,8 @@ fn stands_in(owner: Owner, entry: &Entry) -> bool
     entry.owner == owner
 }
 
-// The commands of which `owner` is the innermost container, in record order.
+// The commands of which `owner` is the innermost container, in record order. A function of the listing
+// and an allocator, as those of `references` are.
 pub fn chunk(heap: Global, listing: &Listing, owner: Owner) -> Result<Vec<Entry>, AllocError>
     ensures entries { IfOk result (λ v. v.items ≡ filter (λ (e : Entry). same_owner owner e.owner) (entries_of listing.now)) }
     ensures innermost { IfOk result (λ v. commands_of v.items ≡ chunk_of owner [] (commands_of (entries_of listing.now))) }

@@ -19,10 +19,8 @@ use text::part::Part;
 pub fn is_super(source: &[u8], command: Command) -> bool
     ensures { result ≡ is_super source.now command }
 {
-    match command {
-        Command::Refer(Reference::Function, name, _) => name.bytes(source) == b"super".as_slice(),
-        _ => false,
-    }
+    matches!(command, Command::Refer(Reference::Function, name, _)
+        if name.bytes(source) == b"super".as_slice())
 }
 
 // What the command refers to; a call of `super` refers to nothing outside.

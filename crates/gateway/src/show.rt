@@ -15,7 +15,7 @@ use std::io;
 
 // What the printing functions share: the runtime, the allocator and the catalogue.
 #[derive(Drop)]
-pub struct Show<'a, P, C> {
+pub(crate) struct Show<'a, P, C> {
     pub rt: &'a P,
     pub heap: Global,
     pub names: &'a C,
@@ -23,7 +23,7 @@ pub struct Show<'a, P, C> {
 
 impl<P: Print, C: Catalogue> Show<'_, P, C> {
     // The template's commands, chunks and references, or why its record is refused.
-    pub fn template(&self, sample: Sample) -> io::Result<()> {
+    pub(crate) fn template(&self, sample: Sample) -> io::Result<()> {
         let name = sample.name;
         let bytes = sample.record.len();
         println!(self.rt; "")?;

@@ -4,13 +4,13 @@ use std::fmt;
 use text::part::Part;
 
 // The text that a part names. Parts of a record that was read are text.
-pub fn text(source: &str, part: Part) -> &str {
+pub(crate) fn text(source: &str, part: Part) -> &str {
     part.text(source.as_bytes()).unwrap_or("?")
 }
 
 // A command, with its name or text as the source has it.
 #[derive(Clone, Copy)]
-pub struct ShownCommand<'a> {
+pub(crate) struct ShownCommand<'a> {
     pub source: &'a str,
     pub command: Command,
 }
@@ -37,7 +37,7 @@ impl fmt::Display for ShownCommand<'_> {
 
 // Where an entry stands: its container, and how many commands stand there before it.
 #[derive(Clone, Copy)]
-pub struct ShownPlace(pub Entry);
+pub(crate) struct ShownPlace(pub Entry);
 
 impl fmt::Display for ShownPlace {
     fn fmt<W: fmt::Write>(&self, f: &mut fmt::Formatter<W>) -> fmt::Result {
@@ -51,7 +51,7 @@ impl fmt::Display for ShownPlace {
 
 // The number that a catalogue gives a name, if it knows it.
 #[derive(Clone, Copy)]
-pub struct ShownNumber(pub Option<u16>);
+pub(crate) struct ShownNumber(pub Option<u16>);
 
 impl fmt::Display for ShownNumber {
     fn fmt<W: fmt::Write>(&self, f: &mut fmt::Formatter<W>) -> fmt::Result {

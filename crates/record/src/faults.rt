@@ -26,6 +26,7 @@ impl Reason {
         }
     }
 
+    // The layer that refuses. A method, and no `From`, which would be a second name for it.
     pub fn layer(self) -> Layer
         ensures { result ≡ layer_of self }
     {
@@ -52,6 +53,7 @@ impl From<RecordFault> for ReadError {
     }
 }
 
+// The library has two errors that say that memory ran out, and each is turned here.
 impl From<AllocError> for ReadError {
     ghost from_gives = { λ _ r. r ≡ Memory };
 

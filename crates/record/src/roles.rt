@@ -8,6 +8,7 @@ use text::part::Part;
 use text::span::Span;
 
 impl Opener {
+    // The container that is opened. A method, and no `From`, which would be a second name for it.
     pub fn container(self) -> Container
         ensures { result ≡ container_of self }
     {
@@ -43,14 +44,13 @@ impl Command {
         }
     }
 
-    // Whether the command opens a container of that kind and name.
+    // Whether the command opens a container of that kind and name. These are parameters of their own:
+    // a caller has them apart, and would make a struct of them only to be taken apart.
     pub fn opens(self, source: &[u8], kind: Container, name: &[u8]) -> bool
         ensures { result ≡ opens_named source.now kind name.now (opens self) }
     {
-        match self {
-            Command::Open(opener, part) => kind == opener.container() && part.bytes(source) == name,
-            _ => false,
-        }
+        matches!(self, Command::Open(opener, part)
+            if kind == opener.container() && part.bytes(source) == name)
     }
 
     pub fn is_end(self) -> bool

@@ -22,9 +22,10 @@ impl Part {
     pub fn text(self, source: &[u8]) -> Result<&str, TextFault>
         ensures { PartText source.now self result }
     {
-        if self.start as usize + self.len as usize > source.len() {
+        let start = self.start as usize;
+        let Some(bytes) = source.get(start..start + self.len as usize) else {
             return Err(TextFault::Outside);
-        }
-        Ok(from_utf8(self.bytes(source))?)
+        };
+        Ok(from_utf8(bytes)?)
     }
 }
