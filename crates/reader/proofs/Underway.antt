@@ -114,7 +114,7 @@ module _ (source bytes : List ℕ) (es : List Entry) (r r' : Reader) (u : Underw
 
     -- where the reader stands then
     moved_on : position r' ≡ position r + 1 + width (letter_of e.command)
-    moved_on = omega (arith, ap length is, ap length t.3.bytes, ap length t.3.rest, length-drop (width (letter_of e.command)) bs, t.4, r.part)
+    moved_on = omega (arith, ap length is, ap length t.3.bytes, ap length t.3.rest, length-drop (width (letter_of e.command)) bs, t.4, r.rest_within)
 
     pub underway_more : (es' : List Entry) → is_end e.command ≡ false → es' ≡ es ++ e ∷ [] → Underway source bytes es' r'
     underway_more es' not_end pushed =

@@ -33,18 +33,18 @@ pub record Moved (r r' : Reader) (left : List ℕ) : Type 0 where
   pub rest : r'.rest.now ≡ left
 
 -- there is room for what the command opens, and something is open that it closes
-abbrev pub HasRoom : ℕ → Command → Type 0
-HasRoom depth (Extends p) = Unit {0}
-HasRoom depth (Open o p) = depth < 16
-HasRoom depth (Refer k p s) = Unit {0}
-HasRoom depth (Variable p) = Unit {0}
-HasRoom depth (Text p) = Unit {0}
-HasRoom depth Close = 0 < depth
-HasRoom depth End = Unit {0}
+abbrev pub CanOpenOrClose : ℕ → Command → Type 0
+CanOpenOrClose depth (Extends p) = Unit {0}
+CanOpenOrClose depth (Open o p) = depth < 16
+CanOpenOrClose depth (Refer k p s) = Unit {0}
+CanOpenOrClose depth (Variable p) = Unit {0}
+CanOpenOrClose depth (Text p) = Unit {0}
+CanOpenOrClose depth Close = 0 < depth
+CanOpenOrClose depth End = Unit {0}
 
 -- what asking a command about its place answers
 abbrev pub Permitted : Reader → List Entry → Command → Result (Unit {0}) Reason → Type 0
-Permitted r before c (Ok u) = (place_fault r.source.now before (standing r).rows c ≡ None) × HasRoom r.depth c
+Permitted r before c (Ok u) = (place_fault r.source.now before (standing r).rows c ≡ None) × CanOpenOrClose r.depth c
 Permitted r before c (Err reason) = place_fault r.source.now before (standing r).rows c ≡ Some reason
 
 -- what the next command answers, and what then stands; `rest` is what was left of the record

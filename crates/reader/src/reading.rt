@@ -2,7 +2,7 @@
 ghost use Rattle.std.specs.Prelude.{◌≡◌, ◌+◌, ◌<◌, ◌≤◌, length, slice_get};
 ghost use Rattle.reader.specs.Questions.{Checked, declared, may_open, stands};
 ghost use Rattle.reader.specs.Reading.{after, counted, entry};
-ghost use Rattle.reader.specs.Rows.{Finished, Fresh, HasRoom, Moved, Next, Permitted, Stepped, position, standing};
+ghost use Rattle.reader.specs.Rows.{CanOpenOrClose, Finished, Fresh, Moved, Next, Permitted, Stepped, position, standing};
 
 use crate::commands::command;
 use crate::nest::{Nest, Stands};
@@ -134,7 +134,7 @@ impl<'a> Reader<'a> {
 
     // What the command opens is opened, and what it closes is closed. It is the command at `index`.
     fn open_or_close(&mut self, command: Command, index: usize)
-        requires { HasRoom self.old.depth command }
+        requires { CanOpenOrClose self.old.depth command }
         ensures stands { standing self.new ≡ after index (standing self.old) command }
         ensures moved { Moved self.old self.new self.old.rest.now }
     {

@@ -24,7 +24,7 @@ pub struct Reader<'a> {
     ghost room: { depth ≤ 16 },
     // Each command takes a byte at least, so what is read of the record bounds every count, and no
     // count can overflow.
-    ghost part: { length rest.now ≤ length bytes.now },
+    ghost rest_within: { length rest.now ≤ length bytes.now },
     ghost body_within: { body + length rest.now ≤ length bytes.now },
     ghost nests_within: { All (λ (n : Nest). n.commands + length rest.now ≤ length bytes.now) nests },
 }
