@@ -49,7 +49,8 @@ fn span_operand(operands: &[u8]) -> Span
     requires { 12 ≤ length operands.now }
     ensures { result ≡ span_operand operands.now }
 {
-    let ([start_line, start_col, end_line, end_col, from, to, ..], _) = operands.as_chunks() else {
+    let ([start_line, start_col, end_line, end_col, from, to, ..], _) = operands.as_chunks::<2>()
+    else {
         unreachable!()
     };
     Span {

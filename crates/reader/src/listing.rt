@@ -5,8 +5,8 @@ ghost use Rattle.reader.specs.Places.{placed};
 use record::command::Entry;
 
 // Each entry names the innermost container that its command stands in, by the index of its opener.
-// No tree in place of the list would be plainer: the record is a flat list, which is written out
-// again byte for byte, and callers ask by that index.
+// A tree would be no plainer: the record is a flat list, which is written out again byte for byte,
+// and callers ask by that index.
 #[derive(Drop)]
 pub struct Listing {
     pub(crate) source: String,

@@ -25,8 +25,8 @@ pub fn read<'a>(heap: Global, source: &'a str, record: &'a [u8]) -> Result<Listi
     }
 }
 
-// The definition of reading computes the worked examples. The number that is given back says nothing,
-// and stays, since a public function keeps its signature.
+// The definition of reading computes the worked examples. The number that is given back says
+// nothing, and stays, since a public function keeps its signature.
 pub fn examples_are_read() -> u8
     ensures { Examples }
 {

@@ -28,12 +28,10 @@ fn declared(source: &[u8], kind: Container, name: &[u8], before: &[Entry]) -> bo
 fn may_open(stands: Stands, kind: Container) -> bool
     ensures { result ≡ may_open stands kind }
 {
-    match (stands, kind) {
-        (Stands::First | Stands::Outside, _) => true,
-        (Stands::InBlock, Container::Block) => true,
-        (Stands::InBlock, Container::Component) => false,
-        (Stands::InComponent, _) => false,
-    }
+    matches!(
+        (stands, kind),
+        (Stands::First | Stands::Outside, _) | (Stands::InBlock, Container::Block)
+    )
 }
 
 impl<'a> Reader<'a> {
@@ -44,7 +42,7 @@ impl<'a> Reader<'a> {
         self.nests[..self.depth].last().copied()
     }
 
-    // What stands open, behind the commands that were read before.
+    // What stands open once `before` was read.
     fn stands(&self, before: &[Entry]) -> Stands
         ensures { result ≡ stands (length before.now) (standing self.now).rows }
     {
@@ -70,8 +68,8 @@ impl<'a> Reader<'a> {
         }
     }
 
-    // Asks of the place: whether the command may stand here, and, where it opens a container,
-    // whether its name is new of its kind and fewer than 16 are open.
+    // Whether the command may stand here, and, where it opens a container, whether its name is new
+    // of its kind and fewer than 16 are open; else the reason to refuse it.
     fn admit(&self, command: Command, before: &[Entry]) -> Result<(), Reason>
         ensures { Permitted self.now before.now command result }
     {
@@ -93,12 +91,12 @@ impl<'a> Reader<'a> {
             }
             (Command::Close, Stands::InBlock | Stands::InComponent) => Ok(()),
             (Command::Close, _) => Err(Reason::Misplaced),
-            (_, _) => Ok(()),
+            _ => Ok(()),
         }
     }
 
-    // Asks of the operands: whether the part is text inside the source, and whether the span is
-    // lawful.
+    // Whether the command's part is text inside the source, and whether its span is lawful; else
+    // the reason to refuse it.
     fn check(&self, command: Command) -> Result<(), Reason>
         ensures { Checked self.now.source.now command result }
     {
@@ -113,8 +111,7 @@ impl<'a> Reader<'a> {
         Ok(())
     }
 
-    // One command more stands in the innermost container, or in the body, and `rest` is left of the
-    // record.
+    // Counts one command more in the innermost container, or in the body, and moves on to `rest`.
     fn count(&mut self, rest: &'a [u8])
         requires { length rest.now < length self.old.rest.now }
         ensures stands { standing self.new ≡ counted (standing self.old).rows (standing self.old).body }
@@ -122,17 +119,14 @@ impl<'a> Reader<'a> {
         ensures moved { Moved self.old self.new rest.now }
     {
         self.rest = rest;
+        // By index: the borrow checker has no rule yet for a loan of this field.
         match self.depth.checked_sub(1) {
-            Some(inner) => {
-                self.nests[inner].commands += 1;
-            }
-            None => {
-                self.body += 1;
-            }
+            Some(inner) => self.nests[inner].commands += 1,
+            None => self.body += 1,
         }
     }
 
-    // What the command opens is opened, and what it closes is closed. It is the command at `index`.
+    // Opens or closes what the command at `index` opens or closes.
     fn open_or_close(&mut self, command: Command, index: usize)
         requires { CanOpenOrClose self.old.depth command }
         ensures stands { standing self.new ≡ after index (standing self.old) command }
@@ -147,14 +141,12 @@ impl<'a> Reader<'a> {
                 };
                 self.depth += 1;
             }
-            Command::Close => {
-                self.depth -= 1;
-            }
+            Command::Close => self.depth -= 1,
             _ => {}
         }
     }
 
-    // The next command, or why it is refused; then the reader stands where it stood.
+    // The next command, or why it is refused. A refusal leaves the reader as it was.
     fn step(&mut self, before: &[Entry]) -> Result<Entry, Reason>
         ensures { Stepped self.old self.new before.now self.old.rest.now result }
     {
@@ -220,7 +212,7 @@ impl<'a> Reader<'a> {
             lines: line_count(source),
             bytes,
             rest: bytes,
-            nests: [unused; 16],
+            nests: [unused; DEEPEST],
             depth: 0,
             body: 0,
         }

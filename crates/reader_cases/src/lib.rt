@@ -14,8 +14,8 @@ mod tests {
     use text::lines::{line, line_count};
     use text::name::Name;
 
-    // Whether the reader takes the record, or the fault; want of memory fails the test. Source and
-    // record are passed here and below as `read` takes them.
+    // Whether the reader takes the record, or the fault; running out of memory fails the test.
+    // Source and record are passed here and below as `read` takes them.
     fn judged(heap: Global, source: &str, bytes: &[u8]) -> Result<Result<(), RecordFault>, Fail> {
         match read(heap, source, bytes) {
             Ok(_) => Ok(Ok(())),
@@ -91,7 +91,8 @@ mod tests {
         expect(&rt, heap, "abc", b"W\x00\x04\x00\x00Z", Err((11, 0)))
     }
 
-    // 11: a part that cuts a sequence of two bytes, at its start and at its end, and an empty one within it
+    // 11: a part that cuts a sequence of two bytes, at its start and at its end, and an empty one
+    // within it
     #[test]
     fn parts_that_cut_a_character(rt: HostRuntime) -> Result<(), Fail> {
         let heap = rt.alloc();
@@ -141,7 +142,8 @@ mod tests {
         )
     }
 
-    // 13: X after another command, E with nothing open, a component in a block, a block in a component
+    // 13: X after another command, E with nothing open, a component in a block, a block in a
+    // component
     #[test]
     fn commands_out_of_place(rt: HostRuntime) -> Result<(), Fail> {
         let heap = rt.alloc();
