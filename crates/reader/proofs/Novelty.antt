@@ -2,7 +2,7 @@
 use Rattle.std.proofs.Common.{◌≡◌, ℕ, Bool, true, false, cond, ◌&&◌, ◌||◌, List, [], ◌∷◌, ◌++◌, Some, None, Option, sym, refl, ap, ◌∙◌, subst, ⊎_elim}
 use Rattle.std.specs.List.{AllByRecursion}
 use Rattle.std.specs.Str.{bytes_eq}
-use Rattle.std.proofs.ByRecursion.{All-append, All-weaker}
+use Rattle.std.proofs.lemmas.List.Elements.{All-append, All-from_recursion, All-weaker, recursion_from_All}
 use Rattle.std.proofs.lemmas.Slice.Eq.{bytes_eq-Decides}
 use Rattle.std.proofs.lemmas.Bool.{both_ways, cases_Bool, false≢true, or_parts, or_from}
 use Rattle.text.specs.Texts.{part_bytes}
@@ -73,6 +73,12 @@ module _ (source : List ℕ) where
   abbrev Apart : List (List ℕ) → List (List ℕ) → Type 0
   Apart before ns = AllByRecursion (λ (n : List ℕ). Absent n before) ns
 
+  all_append : {X : Type 0} (P : X → Type 0) (xs ys : List X) → AllByRecursion P xs → AllByRecursion P ys → AllByRecursion P (xs ++ ys)
+  all_append P xs ys h g = recursion_from_All P (xs ++ ys) (All-append P xs ys (All-from_recursion P xs h) (All-from_recursion P ys g))
+
+  all_weaker : {X : Type 0} (P Q : X → Type 0) → ((x : X) → P x → Q x) → (xs : List X) → AllByRecursion P xs → AllByRecursion Q xs
+  all_weaker P Q f xs h = recursion_from_All Q xs (All-weaker P Q f xs (All-from_recursion P xs h))
+
   all_append_left : {X : Type 0} (P : X → Type 0) (xs ys : List X) → AllByRecursion P (xs ++ ys) → AllByRecursion P xs
   all_append_left P [] ys h = tt
   all_append_left P (x ∷ xs) ys h = (h.0, all_append_left P xs ys h.1)
@@ -84,27 +90,27 @@ module _ (source : List ℕ) where
   -- what one command more before the others adds
   module _ (kind : Container) (before : List (List ℕ)) (ns : List (List ℕ)) where
     distinct_more : (o : Option (Container × Part)) → Holds (λ q. (k : Container) → k ≡ q.0 → Absent (part_bytes source q.1) (cond (same_container kind k) before [])) o → Distinct ns → Apart (before ++ names_from source kind o []) ns → Distinct (names_from source kind o ns) × Apart before (names_from source kind o ns)
-    distinct_more None h d a = (d, All-weaker _ _ (λ n x. all_append_left _ before [] x) ns a)
+    distinct_more None h d a = (d, all_weaker _ _ (λ n x. all_append_left _ before [] x) ns a)
     distinct_more (Some q) h d a = go (same_container kind q.0) (h q.0 refl) a
       where
         go : (t : Bool) → Absent (part_bytes source q.1) (cond t before []) → Apart (before ++ cond t (part_bytes source q.1 ∷ []) []) ns → Distinct (cond t (part_bytes source q.1 ∷ ns) ns) × Apart before (cond t (part_bytes source q.1 ∷ ns) ns)
         go true f b = (
-          (All-weaker _ _ (λ n x. (all_append_right _ before (part_bytes source q.1 ∷ []) x).0) ns b, d),
-          (f, All-weaker _ _ (λ n x. all_append_left _ before (part_bytes source q.1 ∷ []) x) ns b),
+          (all_weaker _ _ (λ n x. (all_append_right _ before (part_bytes source q.1 ∷ []) x).0) ns b, d),
+          (f, all_weaker _ _ (λ n x. all_append_left _ before (part_bytes source q.1 ∷ []) x) ns b),
         )
-        go false f b = (d, All-weaker _ _ (λ n x. all_append_left _ before [] x) ns b)
+        go false f b = (d, all_weaker _ _ (λ n x. all_append_left _ before [] x) ns b)
 
     distinct_less : (o : Option (Container × Part)) → Distinct (names_from source kind o ns) → Apart before (names_from source kind o ns) → Distinct ns × Apart (before ++ names_from source kind o []) ns × Holds (λ q. same_container kind q.0 ≡ true → Absent (part_bytes source q.1) before) o
-    distinct_less None d a = (d, All-weaker _ _ (λ n x. All-append _ before [] x tt) ns a, tt)
+    distinct_less None d a = (d, all_weaker _ _ (λ n x. all_append _ before [] x tt) ns a, tt)
     distinct_less (Some q) d a = go (same_container kind q.0) d a
       where
         both : (xs : List (List ℕ)) → Apart before xs → AllByRecursion (λ (y : List ℕ). part_bytes source q.1 ≡ y → ⊥) xs → Apart (before ++ (part_bytes source q.1 ∷ [])) xs
         both [] b f = tt
-        both (x ∷ xs) b f = (All-append _ before (part_bytes source q.1 ∷ []) b.0 (f.0, tt), both xs b.1 f.1)
+        both (x ∷ xs) b f = (all_append _ before (part_bytes source q.1 ∷ []) b.0 (f.0, tt), both xs b.1 f.1)
 
         go : (t : Bool) → Distinct (cond t (part_bytes source q.1 ∷ ns) ns) → Apart before (cond t (part_bytes source q.1 ∷ ns) ns) → Distinct ns × Apart (before ++ cond t (part_bytes source q.1 ∷ []) []) ns × (t ≡ true → Absent (part_bytes source q.1) before)
         go true e b = (e.1, both ns b.1 e.0, λ _. b.0)
-        go false e b = (e, All-weaker _ _ (λ n x. All-append _ before [] x tt) ns b, λ f. absurd (false≢true f))
+        go false e b = (e, all_weaker _ _ (λ n x. all_append _ before [] x tt) ns b, λ f. absurd (false≢true f))
 
   -- an opener's name is new of its kind
   held_new : (kind : Container) (before : List Command) (o : Option (Container × Part)) → Holds (λ q. among q.0 (part_bytes source q.1) before ≡ false) o → Holds (λ q. (k : Container) → k ≡ q.0 → Absent (part_bytes source q.1) (cond (same_container kind k) (names source kind before) [])) o

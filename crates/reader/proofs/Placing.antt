@@ -72,18 +72,18 @@ same_self i n m e = ap (λ (k : ℕ). k + 1) e ∙ omega arith ∙ sym (ap (λ (
 same_other : (i j : ℕ) (n m : ℕ) → (i ≡ j → ⊥) → n ≡ m → n ≡ cond (eqb i j) 1 0 + m
 same_other i j n m ne e = e ∙ omega arith ∙ sym (ap (λ (t : Bool). cond t 1 0 + m) (ne_eqb i j ne))
 
+Outward-more : (a b : ℕ) (rows : List Nest) → a ≤ b → Outward a rows → Outward b rows
+Outward-more a b [] l h = tt
+Outward-more a b (r ∷ rows) l h = (omega arith, h.1)
+
 -- the rows further out count nothing new
 outer_counts : (before : List Entry) (e : Entry) (i : ℕ) → e.owner ≡ Container i → (rows : List Nest) → Outward i rows → AllByRecursion (Counts before) rows → AllByRecursion (Counts (e ∷ before)) rows
 outer_counts before e i is [] o h = tt
 outer_counts before e i is (r ∷ rows) o h = (
   same_other r.opener i r.commands (count_in (Container r.opener) before) (λ same. omega arith) h.0
       ∙ sym (ap (λ (w : Owner). cond (same_owner (Container r.opener) w) 1 0 + count_in (Container r.opener) before) is),
-  outer_counts before e i is rows (weaken r.opener i rows (omega arith) o.1) h.1,
+  outer_counts before e i is rows (Outward-more r.opener i rows (omega arith) o.1) h.1,
 )
-  where
-    weaken : (a b : ℕ) (rs : List Nest) → a ≤ b → Outward a rs → Outward b rs
-    weaken a b [] l w = tt
-    weaken a b (x ∷ rs) l w = (omega arith, w.1)
 
 -- what stands once a command is counted, before it opens or closes anything
 pub record Counted (before : List Entry) (e : Entry) (s : Standing) : Type 0 where
@@ -115,16 +115,12 @@ count before (r ∷ rows) body c t = record {
 
 -- ---- a command taken
 
-weaker : (b : ℕ) (rows : List Nest) → Outward b rows → Outward (suc b) rows
-weaker b [] h = tt
-weaker b (r ∷ rows) h = (omega arith, h.1)
-
 stays : (before : List Entry) (e : Entry) (s : Standing) → Counted before e s → ((n : ℕ) → innermost n (commands_of before) ≡ innermost n (commands_of (e ∷ before))) → Tells (e ∷ before) s
 stays before e s k same = record {
   owners = λ n. k.owners n ∙ same n;
   counts = k.counts;
   body = k.body;
-  order = weaker (length before) s.rows k.order;
+  order = Outward-more (length before) (suc (length before)) s.rows (omega arith) k.order;
   unseen = λ n h. k.unseen n (omega arith);
 }
 
@@ -153,13 +149,9 @@ closed before e (r ∷ rows) body is k = record {
   owners = λ n. k.owners (suc n) ∙ sym (ap (λ (c : Command). innermost n (c ∷ commands_of before)) is);
   counts = k.counts.1;
   body = k.body;
-  order = further r.opener (length before) rows k.order.0 k.order.1;
+  order = Outward-more r.opener (suc (length before)) rows (omega (arith, k.order.0)) k.order.1;
   unseen = λ n h. k.unseen n (omega arith);
 }
-  where
-    further : (a b : ℕ) (rs : List Nest) → a < b → Outward a rs → Outward (suc b) rs
-    further a b [] l h = tt
-    further a b (x ∷ rs) l h = (omega arith, h.1)
 
 take : (before : List Entry) (s : Standing) (c : Command) → Tells before s → Tells (entry s c ∷ before) (taken (length before) s c)
 take before s (Extends p) t = stays before (entry s (Extends p)) _ (count before s.rows s.body (Extends p) t) (λ n. refl)
