@@ -47,15 +47,7 @@ command_again Close rest = refl
 command_again End rest = refl
 
 pub length_operands : (c : Command) → length (written_operands c) ≡ width (letter_of c)
-length_operands (Extends p) = refl
-length_operands (Open (block s) p) = refl
-length_operands (Open plain_block p) = refl
-length_operands (Open component p) = refl
-length_operands (Refer k p s) = refl
-length_operands (Variable p) = refl
-length_operands (Text p) = refl
-length_operands Close = refl
-length_operands End = refl
+length_operands c = grind arith
 
 -- ---- read, then written
 

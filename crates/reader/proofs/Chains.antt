@@ -26,7 +26,7 @@ pub data Chain (source : List ℕ) : List Entry → Standing → List Command �
 
 -- what is refused is not taken
 pub apart : {X : Type 0} {E : Type 0} {x : X} {e : E} → ◌≡◌ {A = Result X E} (Err e) (Ok x) → ⊥
-apart e = let z : ◌≡◌ {A = ℕ} 0 1 = cc in omega arith
+apart e = grind arith
 
 -- ---- what a turn that was taken tells
 
@@ -62,9 +62,7 @@ pub record Made (source : List ℕ) (es : List Entry) (s : Standing) (bs : List 
   pub is : written commands ≡ bs
 
 ended_inverse : (es : List Entry) (rows : List Nest) (at : ℕ) (bs : List ℕ) (out : List Entry) → ended es rows at bs ≡ Ok out → (rows ≡ []) × (bs ≡ []) × (es ≡ out)
-ended_inverse es [] at [] out e = (refl, refl, cc)
-ended_inverse es [] at (b ∷ bs) out e = absurd (apart e)
-ended_inverse es (r ∷ rows) at bs out e = absurd (apart e)
+ended_inverse es rows at bs out e = grind arith
 
 -- one command, and what the rest was made of
 module _ (source : List ℕ) (es : List Entry) (s : Standing) (at b : ℕ) (bs : List ℕ) (out : List Entry) (h : Bytes (b ∷ bs)) (ih : (es' : List Entry) (s' : Standing) (at' k : ℕ) → k ≤ length bs → read_from source es' s' at' k bs ≡ Ok out → Made source es' s' (drop k bs) out) where

@@ -43,17 +43,14 @@ use Rattle.reader.proofs.Shapes.Steps.{stop, go}
 use Rattle.reader.proofs.Underway.{end_is}
 
 neither : (a b : Option Reason) → or_else a b ≡ None → (a ≡ None) × (b ≡ None)
-neither None b e = (refl, e)
-neither (Some r) b e = absurd (none-some _ (sym e))
+neither a b e = grind arith
 
 -- a question that gives no reason was answered well
 none_true : {X : Type 0} (t : Bool) (x : X) → cond t None (Some x) ≡ None → t ≡ true
-none_true true x e = refl
-none_true false x e = absurd (none-some _ (sym e))
+none_true t x e = grind arith
 
 none_false : {X : Type 0} (t : Bool) (x : X) → cond t (Some x) None ≡ None → t ≡ false
-none_false true x e = absurd (none-some _ (sym e))
-none_false false x e = refl
+none_false t x e = grind arith
 
 -- ---- operands
 
@@ -62,9 +59,8 @@ part_ok source p e = go (inside source p) refl (utf8 (part_bytes source p)) refl
   where
     go : (a : Bool) → inside source p ≡ a → (b : Bool) → utf8 (part_bytes source p) ≡ b → cond a (cond b None (Some NotUtf8)) (Some Outside) ≡ None → TextInside source p
     go true i true u f = record { inside = leb-true (p.start + p.len) (length source) i; text = (utf8_decides (part_bytes source p)).0 u }
-    go true i false u f = absurd (none-some _ (sym f))
-    go false i true u f = absurd (none-some _ (sym f))
-    go false i false u f = absurd (none-some _ (sym f))
+    go true i false u f = grind arith
+    go false i b u f = grind arith
 
 part_back : (source : List ℕ) (p : Part) → TextInside source p → part_fault source p ≡ None
 part_back source p h =
@@ -73,11 +69,7 @@ part_back source p h =
 
 text_ok : (source : List ℕ) (o : Option Part) → not_text (asks_part source o) ≡ None → Holds (TextInside source) o
 text_ok source None e = tt
-text_ok source (Some p) e = part_ok source p (go (part_fault source p) e)
-  where
-    go : (f : Option TextFault) → not_text f ≡ None → f ≡ None
-    go None e = refl
-    go (Some f) e = absurd (none-some _ (sym e))
+text_ok source (Some p) e = part_ok source p (grind arith)
 
 text_back : (source : List ℕ) (o : Option Part) → Holds (TextInside source) o → not_text (asks_part source o) ≡ None
 text_back source None h = refl
@@ -110,24 +102,10 @@ abbrev kinds : List Nest → List Container
 kinds rows = map (λ (r : Nest). r.container) rows
 
 stands_kinds : (n : ℕ) (rows : List Nest) → stands n rows ≡ stands_in n (kinds rows)
-stands_kinds n [] = refl
-stands_kinds n (r ∷ rows) = refl
+stands_kinds n rows = grind arith
 
 kinds_taken : (n : ℕ) (rows : List Nest) (body : ℕ) (c : Command) → kinds (taken n record { rows = rows; body = body } c).rows ≡ moved (kinds rows) c
-kinds_taken n [] body (Extends p) = refl
-kinds_taken n [] body (Open o p) = refl
-kinds_taken n [] body (Refer k p s) = refl
-kinds_taken n [] body (Variable p) = refl
-kinds_taken n [] body (Text p) = refl
-kinds_taken n [] body Close = refl
-kinds_taken n [] body End = refl
-kinds_taken n (r ∷ rows) body (Extends p) = refl
-kinds_taken n (r ∷ rows) body (Open o p) = refl
-kinds_taken n (r ∷ rows) body (Refer k p s) = refl
-kinds_taken n (r ∷ rows) body (Variable p) = refl
-kinds_taken n (r ∷ rows) body (Text p) = refl
-kinds_taken n (r ∷ rows) body Close = refl
-kinds_taken n (r ∷ rows) body End = refl
+kinds_taken n rows body c = grind arith
 
 declared_among : (source : List ℕ) (kind : Container) (name : List ℕ) (es : List Entry) → declared source kind name es ≡ among source kind name (commands_of es)
 declared_among source kind name [] = refl
@@ -221,7 +199,7 @@ chain_back source n ks cs (stop m) es s count is texts spans fresh =
   where
     no_kinds : (rows : List Nest) → kinds rows ≡ [] → rows ≡ []
     no_kinds [] e = refl
-    no_kinds (r ∷ rows) e = absurd (let z : ◌≡◌ {A = ℕ} 0 1 = cc in omega arith)
+    no_kinds (r ∷ rows) e = grind arith
 chain_back source n ks cs (go m ks₁ c cs₁ t a deep rest) es s count is texts spans fresh =
     let A : List Container → Type 0 = λ x. allowed (stands_in m x) c ≡ true in
     let B : ℕ → Type 0 = λ x. allowed (stands_in x (kinds s.rows)) c ≡ true in

@@ -1,5 +1,5 @@
 -- Names that are new as they come are distinct, and the other way round. Assumes nothing.
-use Rattle.std.proofs.Common.{◌≡◌, ℕ, Bool, true, false, cond, ◌&&◌, ◌||◌, List, [], ◌∷◌, ◌++◌, Some, None, Option, sym, refl, ap, ◌∙◌, subst, ⊎_elim}
+use Rattle.std.proofs.Common.{◌≡◌, ℕ, Bool, true, false, cond, ◌&&◌, ◌||◌, List, [], ◌∷◌, ◌++◌, Some, None, Option, sym, refl, ap, ◌∙◌, subst, ⊎_elim, arith}
 use Rattle.std.specs.List.{AllByRecursion}
 use Rattle.std.specs.Str.{bytes_eq}
 use Rattle.std.proofs.lemmas.List.Elements.{All-append, All-from_recursion, All-weaker, recursion_from_All}
@@ -58,12 +58,7 @@ module _ (source : List ℕ) where
       or_from _ _ parts.0 (absent_back kind name cs parts.1)
 
   from_append : (kind : Container) (o : Option (Container × Part)) (xs ys : List (List ℕ)) → names_from source kind o (xs ++ ys) ≡ names_from source kind o xs ++ ys
-  from_append kind None xs ys = refl
-  from_append kind (Some q) xs ys = go (same_container kind q.0)
-    where
-      go : (t : Bool) → cond t (part_bytes source q.1 ∷ (xs ++ ys)) (xs ++ ys) ≡ cond t (part_bytes source q.1 ∷ xs) xs ++ ys
-      go true = refl
-      go false = refl
+  from_append kind o xs ys = grind arith
 
   names_append : (kind : Container) (xs ys : List Command) → names source kind (xs ++ ys) ≡ names source kind xs ++ names source kind ys
   names_append kind [] ys = refl

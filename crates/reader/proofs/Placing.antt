@@ -41,22 +41,16 @@ pub record Tells (before : List Entry) (s : Standing) : Type 0 where
   pub unseen : (k : ℕ) → length before ≤ k → count_in (Container k) before ≡ 0
 
 inner_owner : (rows : List Nest) → owner_at 0 rows ≡ owner_in rows
-inner_owner [] = refl
-inner_owner (r ∷ rows) = refl
+inner_owner rows = grind arith
 
 inner_place : (before : List Entry) (rows : List Nest) (body : ℕ) → AllByRecursion (Counts before) rows → body ≡ count_in Body before → place_in rows body ≡ count_in (owner_in rows) before
-inner_place before [] body h b = b
-inner_place before (r ∷ rows) body h b = h.0
+inner_place before rows body h b = grind arith
 
 pub same_owner_itself : (o : Owner) → same_owner o o ≡ true
-same_owner_itself Body = refl
-same_owner_itself (Container i) = eq-eqb i i refl
+same_owner_itself o = grind arith
 
 pub same_owner_true : (o w : Owner) → same_owner o w ≡ true → o ≡ w
-same_owner_true Body Body e = refl
-same_owner_true Body (Container j) e = absurd (false≢true e)
-same_owner_true (Container i) Body e = absurd (false≢true e)
-same_owner_true (Container i) (Container j) e = ap Container (eqb-true i j e)
+same_owner_true o w e = grind arith
 
 there : (before : List Entry) (s : Standing) (c : Command) → Tells before s → stands_in before (entry s c) ≡ true
 there before s c t =
@@ -110,8 +104,7 @@ count before (r ∷ rows) body c t = record {
 }
   where
     same_owners : (n : ℕ) → owner_at n (raised r ∷ rows) ≡ owner_at n (r ∷ rows)
-    same_owners zero = refl
-    same_owners (suc n) = refl
+    same_owners n = grind arith
 
 -- ---- a command taken
 

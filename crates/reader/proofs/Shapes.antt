@@ -1,5 +1,5 @@
 -- Commands that open and close in turn are properly nested, and the other way round. Assumes nothing.
-use Rattle.std.proofs.Common.{◌≡◌, ℕ, suc, ◌<◌, true, false, cond, eqb, List, [], ◌∷◌, ◌++◌, length, sym, refl, ap, ◌∙◌, subst, arith}
+use Rattle.std.proofs.Common.{◌≡◌, ℕ, suc, ◌<◌, true, false, cond, eqb, List, [], ◌∷◌, ◌++◌, length, sym, refl, ap, ◌∙◌, subst, arith, rules}
 use Rattle.std.proofs.lemmas.List.{append_assoc}
 use Rattle.std.proofs.lemmas.Bool.{cond-false, false≢true, ne_eqb}
 use Rattle.text.specs.declared.part.Part.{Part}
@@ -54,10 +54,7 @@ abbrev Closes : List Container → List Command → Type 0
 Closes ks cs = (inner : List Command) × (tail : List Command) × (cs ≡ inner ++ tail) × Nested (scope_of ks) (length ks) inner × After ks tail
 
 may_hold : (n : ℕ) (ks : List Container) (k : Container) → may_open (stands_in n ks) k ≡ true → MayHold (scope_of ks) k
-may_hold n [] k e = tt
-may_hold n (Block ∷ ks) Block e = tt
-may_hold n (Block ∷ ks) Component e = false≢true e
-may_hold n (Component ∷ ks) k e = false≢true e
+may_hold n ks k e = grind arith
 
 add_plain : (ks : List Container) (c : Command) (cs : List Command) → is_plain c ≡ true → Closes ks cs → Closes ks (c ∷ cs)
 add_plain ks c cs e h = (c ∷ h.0, h.1, ap (λ (l : List Command). c ∷ l) h.2, plain (scope_of ks) (length ks) c h.0 e h.3, h.4)
@@ -74,16 +71,14 @@ add_open n ks o p cs e deep h =
 
 -- after the first command, nothing open is just that
 later : (n : ℕ) → stands_in (suc n) [] ≡ Outside
-later n = cond-false (eqb (suc n) 0) First Outside (ne_eqb (suc n) 0 (λ e. omega arith))
+later n = grind arith
 
 add_close : (n : ℕ) (ks : List Container) (cs : List Command) → may_close (stands_in (suc n) ks) ≡ true → Closes (left_open ks) cs → Closes ks (Close ∷ cs)
 add_close n [] cs e h = absurd (false≢true (sym (ap may_close (later n)) ∙ e))
 add_close n (k ∷ ks) cs e h = ([], Close ∷ cs, refl, nothing (within k) (suc (length ks)), (h.0, h.1, ap (λ (l : List Command). Close ∷ l) h.2, h.3, h.4))
 
 no_extends : (n : ℕ) (ks : List Container) → may_extend (stands_in (suc n) ks) ≡ true → ⊥
-no_extends n [] e = false≢true (sym (ap may_extend (later n)) ∙ e)
-no_extends n (Block ∷ ks) e = false≢true e
-no_extends n (Component ∷ ks) e = false≢true e
+no_extends n ks e = grind arith
 
 closes : (n : ℕ) (ks : List Container) (cs : List Command) → Steps (suc n) ks cs → Closes ks cs
 closes n ks cs (stop m) = ([], End ∷ [], refl, nothing outermost 0, refl)
@@ -120,23 +115,13 @@ shaped cs (go m ks End cs₁ t a deep steps) = absurd (false≢true (sym t))
 -- ---- what is nested is allowed in turn
 
 plain_goes : (n : ℕ) (ks : List Container) (c : Command) (cs : List Command) → is_plain c ≡ true → Steps (suc n) ks cs → Steps n ks (c ∷ cs)
-plain_goes n ks (Extends p) cs e steps = absurd (false≢true e)
-plain_goes n ks (Open o p) cs e steps = absurd (false≢true e)
-plain_goes n ks (Refer k p s) cs e steps = go n ks (Refer k p s) cs refl refl tt steps
-plain_goes n ks (Variable p) cs e steps = go n ks (Variable p) cs refl refl tt steps
-plain_goes n ks (Text p) cs e steps = go n ks (Text p) cs refl refl tt steps
-plain_goes n ks Close cs e steps = absurd (false≢true e)
-plain_goes n ks End cs e steps = absurd (false≢true e)
+plain_goes n ks c cs e steps = search (rules, go)
 
 may_open_there : (n : ℕ) (ks : List Container) (k : Container) → MayHold (scope_of ks) k → may_open (stands_in (suc n) ks) k ≡ true
-may_open_there n [] k h = ap (λ (s : Stands). may_open s k) (later n)
-may_open_there n (Block ∷ ks) Block h = refl
-may_open_there n (Block ∷ ks) Component h = absurd h
-may_open_there n (Component ∷ ks) k h = absurd h
+may_open_there n ks k h = grind arith
 
 may_close_there : (k : Container) → may_close (in_container k) ≡ true
-may_close_there Block = refl
-may_close_there Component = refl
+may_close_there k = grind arith
 
 nested_goes : (s : Scope) (deep : ℕ) (inner : List Command) → Nested s deep inner → (ks : List Container) (tail : List Command) → scope_of ks ≡ s → length ks ≡ deep → ((m : ℕ) → Steps (suc m) ks tail) → (n : ℕ) → Steps (suc n) ks (inner ++ tail)
 nested_goes s deep inner (nothing s₁ d₁) ks tail is long more n = more n
@@ -162,13 +147,7 @@ shift n ks cs (go x [] c cs₁ t a deep steps) m =
 shift n ks cs (go x (k ∷ ks₁) c cs₁ t a deep steps) m = go (suc m) (k ∷ ks₁) c cs₁ t a deep (shift (suc n) (moved (k ∷ ks₁) c) cs₁ steps (suc m))
 
 first_allowed : (c : Command) → allowed Outside c ≡ true → allowed First c ≡ true
-first_allowed (Extends p) e = refl
-first_allowed (Open o p) e = refl
-first_allowed (Refer k p s) e = refl
-first_allowed (Variable p) e = refl
-first_allowed (Text p) e = refl
-first_allowed Close e = absurd (false≢true e)
-first_allowed End e = refl
+first_allowed c e = grind arith
 
 first_too : (n : ℕ) (cs : List Command) → Steps (suc n) [] cs → Steps 0 [] cs
 first_too n cs (stop x) = stop 0

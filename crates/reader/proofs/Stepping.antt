@@ -21,26 +21,10 @@ use Rattle.reader.specs.Reading.{answered, asked, entry, taken, turn}
 use Rattle.reader.specs.Rows.{Moved, Stepped, standing}
 
 letter_of_layout : (l : Letter) → (layout_of l).letter ≡ l
-letter_of_layout Extends = refl
-letter_of_layout Block = refl
-letter_of_layout PlainBlock = refl
-letter_of_layout Component = refl
-letter_of_layout (Refer kind) = refl
-letter_of_layout Variable = refl
-letter_of_layout Text = refl
-letter_of_layout Close = refl
-letter_of_layout End = refl
+letter_of_layout l = grind arith
 
 pub letter_of_command : (l : Letter) (bs : List ℕ) → letter_of (command_of l bs) ≡ l
-letter_of_command Extends bs = refl
-letter_of_command Block bs = refl
-letter_of_command PlainBlock bs = refl
-letter_of_command Component bs = refl
-letter_of_command (Refer kind) bs = refl
-letter_of_command Variable bs = refl
-letter_of_command Text bs = refl
-letter_of_command Close bs = refl
-letter_of_command End bs = refl
+letter_of_command l bs = grind arith
 
 -- a row that the table gives is the layout of its letter
 pub known_layout : (b : ℕ) (y : Layout) → Some y ≡ layout_at b → (letter_at b ≡ Some y.letter) × (y ≡ layout_of y.letter)

@@ -41,28 +41,17 @@ module _ (source : List ℕ) (es : List Entry) (s : Standing) (at b : ℕ) (bs :
   read_taken c told e h = ap turned told ∙ ap (onward c) e ∙ skipped source (es ++ entry s c ∷ []) (taken (length es) s c) (at + 1 + width (letter_of c)) (width (letter_of c)) bs h
 
 pub end_is : (c : Command) → is_end c ≡ true → c ≡ End
-end_is (Extends p) e = absurd (false≢true e)
-end_is (Open o p) e = absurd (false≢true e)
-end_is (Refer k p s) e = absurd (false≢true e)
-end_is (Variable p) e = absurd (false≢true e)
-end_is (Text p) e = absurd (false≢true e)
-end_is Close e = absurd (false≢true e)
-end_is End e = refl
+end_is c e = grind arith
 
 length_counted : (rows : List Nest) (body : ℕ) → length (counted rows body).rows ≡ length rows
-length_counted [] body = refl
-length_counted (n ∷ rows) body = refl
+length_counted rows body = grind arith
 
 -- Z is the last byte, and nothing is open
 ended_whole : (es : List Entry) (rows : List Nest) (at : ℕ) (bs : List ℕ) → length rows ≡ 0 → length bs ≡ 0 → ended es rows at bs ≡ Ok es
-ended_whole es [] at [] h g = refl
-ended_whole es [] at (b ∷ bs) h g = absurd (omega arith)
-ended_whole es (n ∷ rows) at bs h g = absurd (omega arith)
+ended_whole es rows at bs h g = grind arith
 
 ended_early : (es : List Entry) (rows : List Nest) (at : ℕ) (bs : List ℕ) → (0 < length rows) ⊎ (0 < length bs) → ended es rows at bs ≡ refused Unfinished at
-ended_early es [] at [] h = absurd (⊎_elim (λ x. omega arith) (λ x. omega arith) h)
-ended_early es [] at (b ∷ bs) h = refl
-ended_early es (n ∷ rows) at bs h = refl
+ended_early es rows at bs h = grind arith
 
 -- the commands `es` were read, and what is left gives the whole answer
 pub record Underway (source bytes : List ℕ) (es : List Entry) (r : Reader) : Type 0 where
