@@ -32,9 +32,3 @@ counted_inner (suc d) i ns body is h =
     let row = raised (get_or ns d unused) in
     let inner : i ≡ d = omega arith in
     rw inner (λ k. record { rows = get_or-set_same ns d row unused (omega arith) k ∷ rows_set_past d d ns row (omega arith) k; body = body })
-
--- ---- a container opened
-
--- it may stand there, its name is new, and fewer than 16 are open
-pub may_enter : (may known : Bool) (n : ℕ) → may ≡ true → known ≡ false → n < 16 → or_else (cond may None (Some Misplaced)) (or_else (cond known (Some Repeated) None) (cond (ltb n 16) None (Some TooDeep))) ≡ None
-may_enter may known n e f h = rw (e, f) (cond-true (ltb n 16) None (Some TooDeep) (lt-ltb n 16 h))

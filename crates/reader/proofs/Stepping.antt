@@ -40,8 +40,14 @@ known_layout b y e = go (letter_at b) e
 pub known_width : (y : Layout) → y ≡ layout_of y.letter → y.name + y.text + y.span ≡ width y.letter
 known_width y e = ap (λ (w : Layout). w.name + w.text + w.span) e
 
--- A reader at a command whose layout the table gave, with its operands complete.
-module _ (r : Reader) (before : List Entry) (y : Layout) (some : 0 < length r.rest.now) (row : Some y ≡ layout_at (get_or r.rest.now 0 0)) (complete : y.name + y.text + y.span ≤ length (between 1 (length r.rest.now) r.rest.now)) where
+-- The reader stands at that command: the table gave its layout, and its operands are complete.
+pub record Upcoming (r : Reader) (y : Layout) (c : Command) : Type 0 where
+  pub some : 0 < length r.rest.now
+  pub row : Some y ≡ layout_at (get_or r.rest.now 0 0)
+  pub complete : y.name + y.text + y.span ≤ length (between 1 (length r.rest.now) r.rest.now)
+  pub is : c ≡ command_of y.letter (between 1 (length r.rest.now) r.rest.now)
+
+module _ (r : Reader) (before : List Entry) (y : Layout) (c : Command) (up : Upcoming r y c) where
   abbrev byte : ℕ
   byte = get_or r.rest.now 0 0
 
@@ -49,23 +55,23 @@ module _ (r : Reader) (before : List Entry) (y : Layout) (some : 0 < length r.re
   behind = between 1 (length r.rest.now) r.rest.now
 
   begins : r.rest.now ≡ byte ∷ behind
-  begins = first_rest r.rest.now 0 some
+  begins = first_rest r.rest.now 0 up.some
 
   known : (letter_at byte ≡ Some y.letter) × (y ≡ layout_of y.letter)
-  known = known_layout byte y row
+  known = known_layout byte y up.row
 
   wide : y.name + y.text + y.span ≡ width y.letter
   wide = known_width y known.1
 
   fits : width y.letter ≤ length behind
-  fits = omega (arith, complete, wide)
+  fits = omega (arith, up.complete, wide)
 
-  module _ (r' : Reader) (c : Command) (is : c ≡ command_of y.letter behind) where
+  module _ (r' : Reader) where
     turn_is : turn r.source.now before (standing r).rows byte behind ≡ answered (fault_of r.source.now before (standing r).rows c) c
     turn_is =
         ap (asked r.source.now before (standing r).rows behind) known.0
         ∙ cond-false _ _ _ (le-ltb (length behind) (width y.letter) fits)
-        ∙ ap (λ (d : Command). answered (fault_of r.source.now before (standing r).rows d) d) (sym is)
+        ∙ ap (λ (d : Command). answered (fault_of r.source.now before (standing r).rows d) d) (sym up.is)
 
     -- the turn, once the operands are asked
     turn_after : (o : Option Reason) → operand_fault r.source.now c ≡ o → turn r.source.now before (standing r).rows byte behind ≡ answered (or_else o (place_fault r.source.now before (standing r).rows c)) c
@@ -86,7 +92,7 @@ module _ (r : Reader) (before : List Entry) (y : Layout) (some : 0 < length r.re
     pub stepped : (e : Entry) → e ≡ entry (standing r) c → operand_fault r.source.now c ≡ None → place_fault r.source.now before (standing r).rows c ≡ None → standing r' ≡ taken (length before) (standing r) c → Moved r r' (between (y.name + y.text + y.span) (length behind) behind) → Stepped r r' before r.rest.now (Ok e)
     stepped e held asks place stands moved =
         let told : turn r.source.now before (standing r).rows byte behind ≡ Ok c = turn_after None asks ∙ ap (λ (x : Option Reason). answered x c) place in
-        let same : width (letter_of c) ≡ width y.letter = ap width (ap letter_of is ∙ letter_of_command y.letter behind) in
+        let same : width (letter_of c) ≡ width y.letter = ap width (ap letter_of up.is ∙ letter_of_command y.letter behind) in
         let P : List ℕ → Type 0 = λ xs. Stepped r r' before xs (Ok e) in
         let Q : Entry → Type 0 = λ x. Stepped r r' before (byte ∷ behind) (Ok x) in
         let M : List ℕ → Type 0 = Moved r r' in
