@@ -1,10 +1,8 @@
 -- The rows of the open containers, held in an array. Assumes nothing.
-use Rattle.std.proofs.Common.{◌≡◌, ℕ, zero, suc, ◌+◌, ◌<◌, ◌≤◌, Bool, true, false, cond, ltb, ◌≢◌, List, ◌∷◌, length, get_or, set, Some, None, refl, ap, ◌∙◌, arith}
+use Rattle.std.proofs.Common.{◌≡◌, ℕ, zero, suc, ◌+◌, ◌<◌, ◌≤◌, ◌≢◌, List, ◌∷◌, length, get_or, set, refl, ap, ◌∙◌, arith}
 use Rattle.std.proofs.lemmas.List.{get_or-set_same, get_or-set_other}
 use Rattle.reader.specs.declared.nest.Nest.{Nest}
-use Rattle.std.proofs.lemmas.Bool.{cond-true, lt-ltb}
-use Rattle.record.specs.declared.fault.Reason.TheVariants.{Misplaced, Repeated, TooDeep}
-use Rattle.reader.specs.Questions.{Standing, or_else}
+use Rattle.reader.specs.Questions.{Standing}
 use Rattle.reader.specs.Reading.{counted, raised}
 use Rattle.reader.specs.Rows.{rows_of, unused}
 

@@ -2,20 +2,18 @@
 use Rattle.std.proofs.Common.{◌≡◌, ℕ, suc, ◌+◌, ◌<◌, Bool, true, false, cond, ◌&&◌, ◌||◌, ltb, leb, ◌==◌, List, [], ◌∷◌, ◌++◌, map, length, Some, None, Ok, Err, Option, Result, sym, refl, ap, ◌∙◌, subst, arith}
 use Rattle.std.specs.List.{AllByRecursion}
 use Rattle.std.proofs.lemmas.List.{append_assoc, length-map, length_push, map_push}
-use Rattle.std.proofs.lemmas.Option.{none-some}
 use Rattle.std.proofs.lemmas.Bool.{and_from, and_parts, cond-true, cond-false, le-leb, leb-true, lt-ltb, ltb-true}
 use Rattle.text.specs.Lines.{breaks}
 use Rattle.text.specs.Spans.{lawful_in}
 use Rattle.text.specs.Texts.{inside, part_bytes, part_fault}
 use Rattle.text.specs.Utf8.{utf8}
-use Rattle.text.specs.declared.fault.TextFault.{TextFault}
 use Rattle.text.specs.declared.fault.TextFault.TheVariants.{Outside, NotUtf8}
 use Rattle.text.specs.declared.part.Part.{Part}
 use Rattle.text.specs.declared.span.Span.{Span}
 use Rattle.text.proofs.Decoding.{utf8_decides}
 use Rattle.std.proofs.lemmas.List.Splits.{length-slice_split}
 use Rattle.record.specs.declared.command.Command.{Command}
-use Rattle.record.specs.declared.command.Command.TheVariants.{Extends, Open, Refer, Variable, Text, Close, End}
+use Rattle.record.specs.declared.command.Command.TheVariants.{End}
 use Rattle.record.specs.declared.command.Container.{Container}
 use Rattle.record.specs.declared.command.Entry.{Entry}
 use Rattle.record.specs.declared.fault.ReadError.{ReadError}

@@ -1,12 +1,11 @@
 -- Commands that open and close in turn are properly nested, and the other way round. Assumes nothing.
 use Rattle.std.proofs.Common.{◌≡◌, ℕ, suc, ◌<◌, true, false, cond, eqb, List, [], ◌∷◌, ◌++◌, length, sym, refl, ap, ◌∙◌, subst, arith, rules}
 use Rattle.std.proofs.lemmas.List.{append_assoc}
-use Rattle.std.proofs.lemmas.Bool.{cond-false, false≢true, ne_eqb}
+use Rattle.std.proofs.lemmas.Bool.{false≢true}
 use Rattle.text.specs.declared.part.Part.{Part}
 use Rattle.record.specs.declared.command.Command.{Command}
 use Rattle.record.specs.declared.command.Command.TheVariants.{Extends, Open, Refer, Variable, Text, Close, End}
 use Rattle.record.specs.declared.command.Container.{Container}
-use Rattle.record.specs.declared.command.Container.TheVariants.{Block, Component}
 use Rattle.record.specs.declared.command.Opener.{Opener}
 use Rattle.reader.specs.declared.nest.Stands.{Stands}
 use Rattle.reader.specs.declared.nest.Stands.TheVariants.{First, Outside}

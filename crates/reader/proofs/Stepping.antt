@@ -11,7 +11,6 @@ use Rattle.record.specs.declared.command.Entry.{Entry}
 use Rattle.record.specs.declared.fault.Reason.{Reason}
 use Rattle.record.specs.declared.letter.Layout.{Layout}
 use Rattle.record.specs.declared.letter.Letter.{Letter}
-use Rattle.record.specs.declared.letter.Letter.TheVariants.{Extends, Block, PlainBlock, Component, Refer, Variable, Text, Close, End}
 use Rattle.reader.specs.declared.state.Reader.{Reader}
 use Rattle.record.specs.Kinds.{letter_of}
 use Rattle.record.specs.Letters.{layout_at, layout_of, letter_at, width}

@@ -1,8 +1,7 @@
 -- A record that is being read. Assumes nothing.
 use Rattle.std.proofs.Common.{◌≡◌, ℕ, zero, suc, ◌+◌, ◌<◌, ◌≤◌, Bool, true, false, ◌⊎◌, List, [], ◌∷◌, ◌++◌, length, drop, Ok, Err, Result, sym, refl, ap, ◌∙◌, inl, inr, ⊎_elim, arith, length-drop}
-use Rattle.std.proofs.lemmas.Bool.{false≢true}
 use Rattle.record.specs.declared.command.Command.{Command}
-use Rattle.record.specs.declared.command.Command.TheVariants.{Extends, Open, Refer, Variable, Text, Close, End}
+use Rattle.record.specs.declared.command.Command.TheVariants.{End}
 use Rattle.record.specs.declared.command.Entry.{Entry}
 use Rattle.record.specs.declared.fault.Reason.{Reason}
 use Rattle.record.specs.declared.fault.Reason.TheVariants.{Unfinished}
