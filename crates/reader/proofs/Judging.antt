@@ -17,7 +17,7 @@ use Rattle.record.specs.declared.command.Command.TheVariants.{End}
 use Rattle.record.specs.declared.command.Container.{Container}
 use Rattle.record.specs.declared.command.Entry.{Entry}
 use Rattle.record.specs.declared.fault.ReadError.{ReadError}
-use Rattle.record.specs.declared.fault.ReadError.TheVariants.{Record}
+use Rattle.record.specs.declared.fault.ReadError.TheVariants.{Record, Memory}
 use Rattle.record.specs.declared.fault.Reason.{Reason}
 use Rattle.record.specs.declared.fault.Reason.TheVariants.{Span as NotLawful, Misplaced, Repeated, TooDeep}
 use Rattle.record.specs.declared.fault.RecordFault.{RecordFault}
@@ -28,7 +28,7 @@ use Rattle.record.specs.Openers.{opens_named}
 use Rattle.reader.specs.Places.{commands_of}
 use Rattle.reader.specs.Questions.{Standing, allowed, asks_depth, asks_new, asks_part, asks_span, declared, fault_of, not_text, operand_fault, or_else, place_fault, stands}
 use Rattle.reader.specs.Reading.{entry, read, taken}
-use Rattle.reader.specs.Records.{Accepted, Judged, Reads}
+use Rattle.reader.specs.Records.{Accepted, Judged, Reads, entries_of}
 use Rattle.reader.specs.WellFormed.{Distinct, Holds, Lawful, TextInside, WellFormed, names}
 use Rattle.reader.specs.Written.{written}
 use Rattle.reader.proofs.Bytes.{Bytes}
@@ -233,7 +233,7 @@ accepted source bytes out small told =
       innermost = chain_innermost source m.commands out m.chain;
     }
 
-read_well_formed : (source bytes : List ℕ) (cs : List Command) → WellFormed source cs → written cs ≡ bytes → (out : List Entry) × (read source bytes ≡ Ok out)
+pub read_well_formed : (source bytes : List ℕ) (cs : List Command) → WellFormed source cs → written cs ≡ bytes → (out : List Entry) × (read source bytes ≡ Ok out)
 read_well_formed source bytes cs h is =
     let apart : (kind : Container) → Distinct (names source kind cs) × AllByRecursion (λ (n : List ℕ). AllByRecursion (λ (y : List ℕ). y ≡ n → ⊥) []) (names source kind cs) = λ kind. (h.distinct kind, nothing_before (names source kind cs)) in
     let c = chain_back source 0 [] cs (steps cs h.shape) [] start refl refl h.texts h.spans (new source [] cs apart) in
@@ -243,8 +243,14 @@ read_well_formed source bytes cs h is =
     nothing_before [] = tt
     nothing_before (n ∷ ns) = (tt, nothing_before ns)
 
+-- what the definition gives is right by the grammar
+pub judged : (source bytes : List ℕ) (r : Result Listing ReadError) → Bytes bytes → Reads source bytes r → Judged source bytes r
+judged source bytes (Ok l) small h = accepted source bytes (entries_of l) small h.1
+judged source bytes (Err (Record fault)) small h = λ cs well e. apart (sym h ∙ (read_well_formed source bytes cs well e).1)
+judged source bytes (Err Memory) small h = tt
+
 -- what a refused record answers
 pub refused : (source bytes : List ℕ) (fault : RecordFault) (r : Result Listing ReadError) → Bytes bytes → r ≡ Err (Record fault) → read source bytes ≡ Err fault → Reads source bytes r × Judged source bytes r
 refused source bytes fault r small is told =
-    let P : Result Listing ReadError → Type 0 = λ x. Reads source bytes x × Judged source bytes x in
-    subst P (sym is) (told, λ cs well e. apart (sym told ∙ (read_well_formed source bytes cs well e).1))
+    let reads : Reads source bytes r = subst (Reads source bytes) (sym is) told in
+    (reads, judged source bytes r small reads)

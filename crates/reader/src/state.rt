@@ -14,8 +14,8 @@ pub struct Reader<'a> {
     // the whole record, and what is left of it
     pub(crate) bytes: &'a [u8],
     pub(crate) rest: &'a [u8],
-    // The first `depth` rows are the open containers, the innermost last: an array with its depth,
-    // since no more than 16 may be open and the reader's memory is to be fixed.
+    // Sixteen rows in an array, of which the first `depth` are the open containers, the innermost
+    // last: a rule of the project, so that who reads the format finds its sixteen here.
     pub(crate) nests: [Nest; 16],
     pub(crate) depth: usize,
     // how many commands stand directly in the body
