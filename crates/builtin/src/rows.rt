@@ -2,12 +2,14 @@ use catalogue::Kind;
 
 // A built-in name: its kind, the name and its number.
 //
-// A tuple, and no `Numbered` of the crate `catalogue`: with named fields a row of the table would
-// take five lines in place of one.
+// A tuple struct, and not the type `NumberedName` of the crate `catalogue`: with named fields a row
+// of the table would take five lines in place of one.
 #[derive(Clone, Copy)]
 pub struct Known(pub Kind, pub &'static str, pub u16);
 
 // Filters, then tests, then functions, under one running number.
+//
+// A constant array: it is the published table, row by row, to be read beside the document.
 pub(crate) const BUILT_IN: [Known; 56] = [
     Known(Kind::Filter, "safe", 0),
     Known(Kind::Filter, "default", 1),

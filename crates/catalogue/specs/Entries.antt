@@ -1,14 +1,14 @@
 -- What a list of entries means.
 use Rattle.std.specs.Prelude.{ℕ, ◌-◌, Bool, List, [], is_some, vec_items, vec_len, Option, find, option_map}
 use Rattle.arrayvec.specs.ArrayVec.{ArrayVec}
-use Rattle.catalogue.specs.declared.entries.Numbered.{Numbered}
+use Rattle.catalogue.specs.declared.entries.NumberedName.{NumberedName}
 use Rattle.catalogue.specs.declared.kinds.Kind.{Kind}
 use Rattle.catalogue.specs.declared.reserved.Registry.{Registry}
 use Rattle.catalogue.specs.Meaning.{Meaning, same}
 
 -- a registered name
 abbrev pub Entry : Type 0
-Entry = Numbered (ArrayVec ℕ)
+Entry = NumberedName (ArrayVec ℕ)
 
 abbrev pub spells : Entry → Kind → List ℕ → Bool
 spells e k n = same e.kind e.name.items k n

@@ -1,13 +1,13 @@
 -- A list of registrations, one after another.
 use Rattle.std.specs.Prelude.{◌≡◌, ℕ, ◌+◌, ◌≤◌, true, false, cond, List, [], ◌∷◌, length, is_some, is_ok, Some, None, Option}
 use Rattle.catalogue.specs.declared.kinds.Kind.{Kind}
-use Rattle.catalogue.specs.declared.entries.Numbered.{Numbered}
+use Rattle.catalogue.specs.declared.entries.NumberedName.{NumberedName}
 use Rattle.std.specs.Borrow.{Bor}
 use Rattle.catalogue.specs.Meaning.{Meaning, after, answer, or_else, same}
 
 -- a name that is to have a number
 abbrev pub Registration : Type 0
-Registration = Numbered (Bor (List ℕ))
+Registration = NumberedName (Bor (List ℕ))
 
 pub record Said : Type 0 where
   pub kind : Kind

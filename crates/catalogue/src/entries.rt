@@ -7,13 +7,13 @@ use std::convert::AsSlice;
 
 // A name of some kind, with its number.
 #[derive(Clone, Copy, Drop)]
-pub struct Numbered<N> {
+pub struct NumberedName<N> {
     pub kind: Kind,
     pub name: N,
     pub number: u16,
 }
 
-impl<N: AsSlice<u8>> Numbered<N> {
+impl<N: AsSlice<u8>> NumberedName<N> {
     // Whether it is of this kind and name.
     pub(crate) fn is(&self, kind: Kind, name: &[u8]) -> bool
         ensures { result ≡ same self.now.kind (N.items self.now.name) kind name.now }
@@ -23,4 +23,4 @@ impl<N: AsSlice<u8>> Numbered<N> {
 }
 
 // A registered name, kept in place.
-pub(crate) type Entry = Numbered<ArrayVec<u8, 63>>;
+pub(crate) type Entry = NumberedName<ArrayVec<u8, 63>>;

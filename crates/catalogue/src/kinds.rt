@@ -19,7 +19,8 @@ pub enum Refusal {
 }
 
 impl Refusal {
-    // The published number of the refusal, which programs print: one definition for each case.
+    // The published number of the refusal, which programs print. The definition `published` gives
+    // each case its number.
     pub fn number(self) -> u8
         ensures { result ≡ published self }
     {

@@ -3,7 +3,8 @@ ghost use Rattle.catalogue.specs.Meaning.{over};
 use crate::kinds::{Kind, Refusal};
 use crate::lookup::Catalogue;
 
-// One catalogue laid over another. Its own part answers first, and takes the names that are registered.
+// One catalogue laid over another. Its own part answers first, and takes the names that are
+// registered.
 #[derive(Drop)]
 pub struct Overlay<A, B> {
     pub own: A,

@@ -9,7 +9,7 @@ mod reserved;
 mod runs;
 mod table;
 
-pub use entries::Numbered;
+pub use entries::NumberedName;
 pub use kinds::{Kind, Refusal};
 pub use layers::Overlay;
 pub use lookup::Catalogue;

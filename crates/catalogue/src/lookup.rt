@@ -3,12 +3,13 @@ ghost use Rattle.catalogue.specs.Meaning.{Meaning, Registers};
 
 use crate::kinds::{Kind, Refusal};
 
-// A catalogue means a map from kind and name to a number, the names that it holds itself, and the places it has left.
+// A catalogue means a map from kind and name to a number, the names that it holds itself, and the
+// places it has left.
 //
-// Asking tells the meaning and alters nothing. Registering is all that alters it.
+// Asking tells the meaning and alters nothing. Only registering alters it.
 //
-// Kind and name stay two parameters: a caller writes the kind and reads the name, and would make a
-// struct of them only for the catalogue to take it apart.
+// Kind and name stay two parameters: a caller writes the kind and reads the name, so a struct of
+// the two would be made at each call only to be taken apart in it.
 pub trait Catalogue {
     // The longest name that the catalogue takes, in bytes.
     const LONGEST: usize;

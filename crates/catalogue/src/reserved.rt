@@ -4,9 +4,9 @@ use crate::entries::Entry;
 
 // The caller's own catalogue: room for `limit` names, reserved when it is made.
 //
-// A list that is searched from the front, and no map: a map asks for memory at each new name,
-// which registering may not do. The ordered table of the crate `table` has the same two fields and
-// facts, but no call in common with this one, so the two stay apart.
+// A list that is searched from the front, and not a map: a map asks for memory at each new name,
+// and registering must not. The ordered table of the crate `table` has these two fields and facts
+// too, but shares no call with the catalogue, so the two types stay apart.
 #[derive(Drop)]
 pub struct Registry {
     pub(crate) entries: Vec<Entry>,

@@ -2,14 +2,14 @@ ghost use Rattle.catalogue.specs.Meaning.{after};
 ghost use Rattle.catalogue.specs.Runs.{Leaves, all_after, said, turned_down};
 ghost use Rattle.std.specs.Prelude.{◌≡◌, true, map, is_some};
 
-use crate::entries::Numbered;
+use crate::entries::NumberedName;
 use crate::kinds::Kind;
 use crate::lookup::Catalogue;
 
 // A name that is to have a number.
-pub type Registration<'a> = Numbered<&'a [u8]>;
+pub type Registration<'a> = NumberedName<&'a [u8]>;
 
-// Registers a name and then asks for a name, be it the same or another: a name that was known still is.
+// Registers a name and then asks for a name, the same or another: a name that was known still is.
 pub fn ask_after<C: Catalogue>(
     catalogue: &mut C,
     new: Registration,

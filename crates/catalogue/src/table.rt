@@ -1,7 +1,7 @@
 ghost use Rattle.std.specs.Prelude.{◌≡◌, IfOk, position};
 ghost use Rattle.catalogue.specs.Entries.{empty, registry, spells};
 
-use crate::entries::Numbered;
+use crate::entries::NumberedName;
 use crate::kinds::{Kind, Refusal};
 use crate::lookup::Catalogue;
 use crate::reserved::Registry;
@@ -58,13 +58,14 @@ impl Catalogue for Registry {
         if name.len() > Self::LONGEST {
             return Err(Refusal::TooLong);
         }
-        // By the place: once `iter_mut().find(..)` has lent an entry, a proof knows nothing of them.
+        // By index: after `iter_mut().find(..)` a proof knows only the number of entries.
         match self.place(kind, name) {
             Some(i) => self.entries[i].number = number,
             None if self.places() == 0 => return Err(Refusal::Full),
             None => {
                 let name = ArrayVec::try_from(name).unwrap();
-                self.entries.push_reserved(Numbered { kind, name, number });
+                self.entries
+                    .push_reserved(NumberedName { kind, name, number });
             }
         }
         Ok(())
