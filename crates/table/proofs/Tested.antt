@@ -1,8 +1,9 @@
 -- Rows in order, as a ghost field of a struct that holds a table may state it: by the fact, which has one proof at most, or by the test.
 use Rattle.std.proofs.Common.{◌≡◌, Bool, true, List, [], ◌∷◌, refl}
 use Rattle.std.proofs.lemmas.Bool.{and_from, and_parts}
-use Rattle.std.specs.List.{list_all, AllByRecursion}
-use Rattle.std.specs.List.{AllByRecursion-prop}
+use Rattle.std.proofs.lemmas.List.Elements.{All-from_recursion, recursion_from_All}
+use Rattle.std.proofs.lemmas.List.Sums.{AllPass-from_list_all, list_all-from_AllPass}
+use Rattle.std.specs.List.{list_all, AllByRecursion, AllByRecursion-prop}
 use Rattle.std.specs.Coded.{×_prop, Unit-prop}
 use Rattle.std.specs.Ordering.{is_lt}
 use Rattle.std.specs.declared.cmp.Ordering.{Ordering}
@@ -17,14 +18,10 @@ pub strict_prop : {X : Type 0} (c : X → X → Ordering) (xs : List X) → IsPr
 strict_prop c xs = order_prop (λ x y. is_lt (c x y)) xs
 
 all_from_pass : {X : Type 0} (p : X → Bool) (xs : List X) → list_all p xs ≡ true → AllByRecursion (λ y. p y ≡ true) xs
-all_from_pass p [] h = tt
-all_from_pass p (x ∷ xs) h =
-    let q = and_parts (p x) (list_all p xs) h in
-    (q.0, all_from_pass p xs q.1)
+all_from_pass p xs h = recursion_from_All (λ y. p y ≡ true) xs (AllPass-from_list_all p xs h)
 
 pass_from_all : {X : Type 0} (p : X → Bool) (xs : List X) → AllByRecursion (λ y. p y ≡ true) xs → list_all p xs ≡ true
-pass_from_all p [] h = refl
-pass_from_all p (x ∷ xs) h = and_from (p x) (list_all p xs) h.0 (pass_from_all p xs h.1)
+pass_from_all p xs h = list_all-from_AllPass p xs (All-from_recursion (λ y. p y ≡ true) xs h)
 
 pub order_from_test : {X : Type 0} (t : X → X → Bool) (xs : List X) → in_order t xs ≡ true → InOrder t xs
 order_from_test t [] h = tt

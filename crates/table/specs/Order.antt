@@ -16,7 +16,7 @@ abbrev pub InOrder : {X : Type 0} → (X → X → Bool) → List X → Type 0
 InOrder t [] = Unit {0}
 InOrder t (x ∷ xs) = AllByRecursion (λ y. t x y ≡ true) xs × InOrder t xs
 
--- the same as a test
+-- the same as a test, for a ghost field of a struct that holds a table
 abbrev pub in_order : {X : Type 0} → (X → X → Bool) → List X → Bool
 in_order t [] = true
 in_order t (x ∷ xs) = list_all (t x) xs && in_order t xs

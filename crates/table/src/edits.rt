@@ -76,7 +76,8 @@ impl<R: Row> Table<R> {
         Ok(())
     }
 
-    // Puts a row in the place of one with its key, which is given back, or lets it in where there is none.
+    // Puts a row in the place of one with its key, which is given back, or lets it in where there
+    // is none.
     pub fn replace(&mut self, row: R) -> Result<Option<R>, R>
         ensures does { Puts R.compare R.key self.old row result self.new }
         ensures exact { Strict R.compare (held self.old) → PutsExactly R.compare self.old row result self.new }

@@ -8,7 +8,8 @@ use crate::rows::Row;
 use std::alloc::{AllocError, Global};
 
 impl<R: Row> Table<R> {
-    // Lets a row in and counts it; where the table is full, the greatest row has no place and is given back.
+    // Lets a row in and counts it; where the table is full, the greatest row has no place and is
+    // given back.
     //
     // So after any rows, one by one, the table holds the first of them all.
     pub fn keep_first(&mut self, row: R) -> Option<R>

@@ -2,7 +2,8 @@ ghost use Rattle.std.specs.Prelude.{◌≤◌, vec_len, vec_capacity};
 
 // Rows in order, at most `limit` of them, and how many came to be kept among the first.
 //
-// The room for `limit` rows is reserved, so that no row that is let in asks for memory.
+// The room for `limit` rows is reserved, so that no row that is let in asks for memory. No map
+// serves: it asks for memory at a new key, and holds only one of the rows that tie.
 //
 // That the rows stand in order is no fact of the type. It would cite `R.compare`, and so ask
 // `R: Row` of the type and of each call that asks nothing of `R`: a ghost field cannot cite a bound

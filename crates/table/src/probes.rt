@@ -10,7 +10,8 @@ use crate::ordered::Table;
 use crate::rows::Row;
 use std::cmp::Ordering;
 
-// What a key is given by, where one has no whole row: it tells whether a row stands before the key, at it or after it.
+// What a key is given by, where one has no whole row: it tells whether a row stands before the key,
+// at it or after it.
 pub trait Probe<R: Row> {
     ghost stands: { Self → R → Ordering };
 
