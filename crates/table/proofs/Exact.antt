@@ -1,9 +1,11 @@
 -- Where no two rows tie, what is put by key is what the definitions compute.
-use Rattle.std.proofs.Common.{◌≡◌, ◌≢◌, ℕ, zero, suc, ◌<◌, List, [], ◌∷◌, length, get_or, set, Some, None, Ordering, Less, Equal, refl, ap, arith}
-use Rattle.std.specs.List.{All}
+use Rattle.std.proofs.Common.{◌≡◌, ◌≢◌, ℕ, zero, suc, ◌<◌, List, [], ◌∷◌, length, get_or, set, Some, None, Err, Ordering, Less, Equal, sym, refl, ap, ◌∙◌, arith}
+use Rattle.std.specs.List.{insert, All}
 use Rattle.table.specs.declared.rows.Row.{Ghosts}
-use Rattle.table.specs.Order.{Absent, Strict, at_key, insert_in, put_in}
-use Rattle.table.proofs.Orderly.{apart}
+use Rattle.table.specs.Calls.{Searched}
+use Rattle.table.specs.Order.{Strict, at_key, insert_in, put_in}
+use Rattle.table.proofs.Orderly.{apart, ascending_from_strict}
+use Rattle.table.proofs.Placing.{parted}
 use Rattle.table.proofs.Seeking.{own_before}
 
 module _ {X : Type 0} (c : X → X → Ordering) (x : X) where
@@ -28,6 +30,9 @@ module _ {X : Type 0} (row : Ghosts X) (x : X) (xs : List X) (s : Strict row.com
   pub there : (i : ℕ) → (i < length xs) × ((d : X) → row.key (get_or xs i d) ≡ row.key x) → (at_key row.compare x xs ≡ Some (get_or xs i x)) × (put_in row.compare x xs ≡ set xs i x)
   there i h = let tie = row.keyed (get_or xs i x) x (h.1 x) in tied row.compare x xs i x h.0 tie (own_before row x xs s i x h.0 tie)
 
-  -- none has it
-  pub nowhere : Absent row.key xs x → (at_key row.compare x xs ≡ None) × (put_in row.compare x xs ≡ insert_in row.compare x xs)
-  nowhere n = none_tied row.compare x xs (apart row x xs n)
+  -- none has it, and it belongs at i
+  pub nowhere : (i : ℕ) → Searched row.compare row.key xs x (Err i) → (at_key row.compare x xs ≡ None) × (put_in row.compare x xs ≡ insert xs i x)
+  nowhere i h =
+      let a = h.1 (ascending_from_strict row.compare xs s) in
+      let none = none_tied row.compare x xs (apart row x xs a.1) in
+      (none.0, none.1 ∙ sym (parted row.compare x xs i h.0 a.0))

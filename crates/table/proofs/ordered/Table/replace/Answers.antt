@@ -2,6 +2,7 @@ use Rattle.std.proofs.Common.{◌≡◌, true, false, nat_lt, length, sym, refl,
 use Rattle.std.proofs.lemmas.List.{get_or_read}
 use Rattle.std.specs.Ordering.{is_le, is_lt}
 use Rattle.table.specs.Held.{held}
+use Rattle.table.specs.Order.{Ascending}
 use Rattle.table.proofs.Exact.{there, nowhere}
 use Rattle.table.proofs.Placing.{parted}
 use Rattle.table.proofs.Orderly.{ascending_from_strict, ascending_in, order_put, strict_in}
@@ -25,32 +26,24 @@ returns-in-Ok-clause-strict g c = rw c.replace.ensures.after (order_put g.R.Row 
 pub returns-then-is_full-clause-exact : goal.returns-then-is_full-clause-exact
 returns-then-is_full-clause-exact g c = λ s.
     let t = c.args.self.now in
-    let h = c.in-Err.ensures.1 (ascending_from_strict g.R.Row.compare (held t) s) in
-    let n = nowhere g.R.Row c.args.row (held t) s h.1 in
+    let n = nowhere g.R.Row c.args.row (held t) s c.in-Err.i c.in-Err.ensures in
     let full : nat_lt (length (held t)) t.limit ≡ false = search rules in
     record { answer = rw (n.0, full) refl; rows = refl }
 
 -- none has it, and it is let in
-pub returns-else-is_full-clause-does : goal.returns-else-is_full-clause-does
-returns-else-is_full-clause-does g c =
-    let h = c.in-Err.ensures in
-    (search rules, (c.in-Err.i, h.0, c.put.ensures), λ a. ((h.1 a).1, c.put.ensures.rows ∙ parted g.R.Row.compare c.args.row (held c.args.self.now) c.in-Err.i h.0 (h.1 a).0))
-
-pub returns-else-is_full-clause-exact : goal.returns-else-is_full-clause-exact
-returns-else-is_full-clause-exact g c = λ s.
+pub returns-else-is_full : goal.returns-else-is_full
+returns-else-is_full g c =
+    let row = g.R.Row in
+    let x = c.args.row in
     let t = c.args.self.now in
-    let h = c.in-Err.ensures.1 (ascending_from_strict g.R.Row.compare (held t) s) in
-    let n = nowhere g.R.Row c.args.row (held t) s h.1 in
-    let room : nat_lt (length (held t)) t.limit ≡ true = search rules in
-    record { answer = rw (n.0, room) refl; rows = c.put.ensures.rows ∙ parted g.R.Row.compare c.args.row (held t) c.in-Err.i c.in-Err.ensures.0 h.0 ∙ sym n.1 }
-
-pub returns-else-is_full-clause-ascending : goal.returns-else-is_full-clause-ascending
-returns-else-is_full-clause-ascending g c = λ a.
-    let xs = held c.args.self.now in
-    rw (c.put.ensures.rows, parted g.R.Row.compare c.args.row xs c.in-Err.i c.in-Err.ensures.0 (c.in-Err.ensures.1 a).0) (ascending_in g.R.Row c.args.row xs a)
-
-pub returns-else-is_full-clause-strict : goal.returns-else-is_full-clause-strict
-returns-else-is_full-clause-strict g c = λ s.
-    let xs = held c.args.self.now in
-    let h = c.in-Err.ensures.1 (ascending_from_strict g.R.Row.compare xs s) in
-    rw (c.put.ensures.rows, parted g.R.Row.compare c.args.row xs c.in-Err.i c.in-Err.ensures.0 h.0) (strict_in g.R.Row c.args.row xs h.1 s)
+    let xs = held t in
+    let i = c.in-Err.i in
+    let h = c.in-Err.ensures in
+    let room : nat_lt (length xs) t.limit ≡ true = search rules in
+    let rows = λ (a : Ascending row.compare xs). c.put.ensures.rows ∙ parted row.compare x xs i h.0 (h.1 a).0 in
+    record {
+      does = (search rules, (i, h.0, c.put.ensures), λ a. ((h.1 a).1, rows a));
+      exact = λ s. let n = nowhere row x xs s i h in record { answer = rw (n.0, room) refl; rows = c.put.ensures.rows ∙ sym n.1 };
+      ascending = λ a. rw (rows a) (ascending_in row x xs a);
+      strict = λ s. let a = ascending_from_strict row.compare xs s in rw (rows a) (strict_in row x xs (h.1 a).1 s);
+    }
