@@ -1,4 +1,4 @@
--- The order of weighed rows is total, and ties only rows of one weight and tag.
+-- The order of weighed rows is total, and ties only rows of one weight and tag. In `specs/`, since an `impl` may import of its own crate only what stands there.
 use Rattle.std.specs.Prelude.{◌≡◌}
 use Rattle.std.specs.declared.cmp.Ordering.TheVariants.{Equal}
 use Rattle.std.specs.Cmp.{IsTotalOrder}

@@ -11,7 +11,8 @@ use table::{Probe, Row};
 
 impl Weighed {
     fn scale(&self) -> Scale
-        ensures { (result.weight ≡ self.now.weight) × (result.tag ≡ self.now.tag) }
+        ensures weight { result.weight ≡ self.now.weight }
+        ensures tag { result.tag ≡ self.now.tag }
     {
         Scale {
             weight: self.weight,
