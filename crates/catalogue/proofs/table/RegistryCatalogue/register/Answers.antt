@@ -1,4 +1,5 @@
 use Rattle.std.proofs.Common.{◌-◌, refl, vec_items, vec_len, arith}
+use Rattle.catalogue.specs.Entries.{Entry}
 use Rattle.catalogue.proofs.Listings.{lookup_none, lookup_some, push_writes, set_writes}
 use Rattle.std.proofs.lemmas.Bool.Decides.{nat_tests}
 use Rattle.std.proofs.lemmas.Grind.{common_steps}
@@ -19,7 +20,8 @@ returns-in-Some c =
 pub returns-in-None-2 : goal.returns-in-None-2
 returns-in-None-2 c =
     let t = c.args.self.now in
-    let none = lookup_none (vec_items t.entries) c.args.kind c.args.name.now c.in-None.ensures in
+    let u = c.push_reserved.new.self in
     let kept = rw c.unwrap-name.ensures at c.try_from.ensures in
-    let written = push_writes (vec_items t.entries) c.args.kind c.args.name.now (t.limit - vec_len t.entries) (t.limit - vec_len c.push_reserved.new.self) (record { kind = c.args.kind; name = c.unwrap-name.result; number = c.args.number }) (vec_items c.push_reserved.new.self) c.in-None.ensures refl kept.0 c.push_reserved.ensures.items (grind (arith, common_steps)) in
+    let entry : Entry = record { kind = c.args.kind; name = c.unwrap-name.result; number = c.args.number } in
+    let written = push_writes (vec_items t.entries) c.args.kind c.args.name.now (t.limit - vec_len t.entries) (t.limit - vec_len u) entry (vec_items u) c.in-None.ensures refl kept.0 c.push_reserved.ensures.items (grind (arith, common_steps)) in
     record { answers = grind (arith, nat_tests); leaves = grind (arith, nat_tests) }
