@@ -7,15 +7,14 @@ use Rattle.catalogue.proofs.table.RegistryCatalogue.register.Goals as goal
 
 pub returns-in-None : goal.returns-in-None
 returns-in-None c =
-    let none = lookup_none (vec_items c.args.self.now.entries) c.args.kind c.args.name.now c.in-None.ensures in
-    record { answers = grind (arith, nat_tests); leaves = grind (arith, nat_tests) }
+    grind (arith, nat_tests, lookup_none (vec_items c.args.self.now.entries) c.args.kind c.args.name.now c.in-None.ensures)
 
 pub returns-in-Some : goal.returns-in-Some
 returns-in-Some c =
     let t = c.args.self.now in
     let held = lookup_some (vec_items t.entries) c.args.kind c.args.name.now c.in-Some.i c.in-Some.ensures in
     let written = set_writes (vec_items t.entries) c.args.kind c.args.name.now (t.limit - vec_len t.entries) _ c.args.number c.in-Some.i c.index_mut.result.now c.in-Some.ensures c.index_mut.ensures.value refl in
-    record { answers = grind (arith, nat_tests); leaves = grind (arith, nat_tests) }
+    grind (arith, nat_tests)
 
 pub returns-in-None-2 : goal.returns-in-None-2
 returns-in-None-2 c =
@@ -24,4 +23,4 @@ returns-in-None-2 c =
     let kept = rw c.unwrap-name.ensures at c.try_from.ensures in
     let entry : Entry = record { kind = c.args.kind; name = c.unwrap-name.result; number = c.args.number } in
     let written = push_writes (vec_items t.entries) c.args.kind c.args.name.now (t.limit - vec_len t.entries) (t.limit - vec_len u) entry (vec_items u) c.in-None.ensures refl kept.0 c.push_reserved.ensures.items (grind (arith, common_steps)) in
-    record { answers = grind (arith, nat_tests); leaves = grind (arith, nat_tests) }
+    grind (arith, nat_tests)
