@@ -47,7 +47,8 @@ fn lengths_and_places(rt: HostRuntime) -> Result<(), Fail> {
     Ok(())
 }
 
-// The layer above has the first word, and what it does not name is asked below; three layers are no other matter.
+// The layer above has the first word, and what it does not name is asked below; so also with three
+// layers.
 #[test]
 fn layers(rt: HostRuntime) -> Result<(), Fail> {
     let mut two = layered(rt.alloc(), 1)?;
