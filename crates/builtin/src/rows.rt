@@ -9,7 +9,8 @@ pub struct Known(pub Kind, pub &'static str, pub u16);
 
 // Filters, then tests, then functions, under one running number.
 //
-// A constant array: it is the published table, row by row, to be read beside the document.
+// A constant array, looked through from the front: it is the published table, to be read beside the
+// document, and a map would have to be made, with memory, before the first question.
 pub(crate) const BUILT_IN: [Known; 56] = [
     Known(Kind::Filter, "safe", 0),
     Known(Kind::Filter, "default", 1),

@@ -1,7 +1,8 @@
 ghost use Rattle.catalogue.specs.Numbers.{published};
 ghost use Rattle.std.specs.Prelude.{◌≡◌};
 
-// What a name in a template may stand for.
+// What a name in a template may stand for. Three of the five kinds of reference that a record has: an
+// enum of its own, since a catalogue stands on no record.
 #[derive(Clone, Copy, PartialEq, Eq, Debug)]
 pub enum Kind {
     Filter,

@@ -8,13 +8,14 @@ use crate::kinds::{Kind, Refusal};
 //
 // Asking tells the meaning and alters nothing. Only registering alters it.
 //
-// Kind and name stay two parameters: a caller writes the kind and reads the name, so a struct of
-// the two would be made at each call only to be taken apart in it.
+// Kind and name, and the number with them, stay parameters of their own: a caller writes the kind
+// and reads the name, so a struct of them would be made at each call only to be taken apart in it.
 pub trait Catalogue {
     // The longest name that the catalogue takes, in bytes.
     const LONGEST: usize;
 
-    // The same number, as contracts name it.
+    // The same number, as contracts name it. Each catalogue writes it and `longest_name` itself: a
+    // ghost member that is tied to the constant would refuse an `impl` with a lifetime parameter.
     ghost longest: { ℕ };
 
     ghost means: { Self → Meaning };

@@ -4,9 +4,10 @@ use crate::entries::Entry;
 
 // The caller's own catalogue: room for `limit` names, reserved when it is made.
 //
-// A list that is searched from the front, and not a map: a map asks for memory at each new name,
-// and registering must not. The ordered table of the crate `table` has these two fields and facts
-// too, but shares no call with the catalogue, so the two types stay apart.
+// A list that is searched from the front, and not a map: a tree map asks for memory at each new
+// name, which registering must not, and for a hash map each name that is asked would first be copied
+// into a key. The ordered table of the crate `table` has these two fields and facts too, and is made
+// alike, but the crates know nothing of one another, so the two types stay apart.
 #[derive(Drop)]
 pub struct Registry {
     pub(crate) entries: Vec<Entry>,

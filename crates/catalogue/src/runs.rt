@@ -30,6 +30,7 @@ pub fn register_all<C: Catalogue>(catalogue: &mut C, list: &[Registration]) -> u
     ensures leaves { C.means catalogue.new ≡ all_after C.longest (C.means catalogue.old) (map said list.now) }
     ensures law { Leaves C.longest (C.means catalogue.old) (map said list.now) (C.means catalogue.new) }
 {
+    // A loop: a filter whose test registers gets no proof of what it leaves.
     let mut refused = 0;
     for new in list {
         if catalogue.register(new.kind, new.name, new.number).is_err() {

@@ -13,8 +13,9 @@ pub struct Nest {
     pub commands: usize,
 }
 
-// What stands open, as far as a command asks: whether it is the first of all, and else the
-// innermost container.
+// What stands open, as far as a command asks: whether it is the first of all, and else the innermost
+// container. Four cases, and none with a `Container` in it: the questions of a place name each once,
+// and not a case within a case.
 #[derive(Clone, Copy)]
 pub enum Stands {
     First,

@@ -5,7 +5,7 @@ use Rattle.std.proofs.lemmas.List.Elements.{All-from_recursion, All-set, recursi
 use Rattle.std.proofs.lemmas.List.Quantifiers.{all_pairs_remove}
 use Rattle.std.specs.List.{remove, All, AllByRecursion, AllPairs}
 use Rattle.std.specs.Cmp.{IsTotalOrder, alike_right, upto}
-use Rattle.std.specs.Ordering.{is_le, is_lt}
+use Rattle.std.specs.Ordering.{is_le, is_lt, ordering_reverse}
 use Rattle.table.specs.declared.rows.Row.{Ghosts}
 use Rattle.table.specs.Order.{Absent, InOrder, Ascending, Strict, insert_in}
 
@@ -49,9 +49,13 @@ module _ {X : Type 0} (c : X → X → Ordering) (t : X → X → Bool) (x : X) 
         | false ↦ λ e. ((passes y e, recursion_from_All (λ z. t x z ≡ true) ys (λ k d l. chains y (get_or ys k d) (passes y e) (All-from_recursion (λ z. t y z ≡ true) ys o.0 k d l))), o)
       ] refl
 
--- a row's order is total, from what each `impl` of `Row` proves
+-- an order is total by its answers
+abbrev pub total_by : {X : Type 0} (c : X → X → Ordering) → ((x y : X) → c x y ≡ ordering_reverse (c y x)) → ((x y z : X) → c x y ≡ Less → c y z ≡ Less → c x z ≡ Less) → ((x y z : X) → c x y ≡ Equal → c x z ≡ c y z) → IsTotalOrder c
+total_by c flip trans alike = record { antisymm = flip; trans = trans; congr = alike }
+
+-- a row's order is, from what each `impl` of `Row` proves
 pub total : {X : Type 0} (row : Ghosts X) → IsTotalOrder row.compare
-total row = record { antisymm = row.flip; trans = row.trans; congr = row.alike }
+total row = total_by row.compare row.flip row.trans row.alike
 
 module _ {X : Type 0} (row : Ghosts X) (x : X) where
   less : (y : X) → is_le (row.compare y x) ≡ false → row.compare x y ≡ Less
