@@ -14,8 +14,8 @@ pub trait Catalogue {
     // The longest name that the catalogue takes, in bytes.
     const LONGEST: usize;
 
-    // The same number, as contracts name it. Each catalogue writes it and `longest_name` itself: a
-    // ghost member that is tied to the constant would refuse an `impl` with a lifetime parameter.
+    // The same number, as contracts name it. Each catalogue writes it and `longest_name` itself: with
+    // a ghost member tied to the constant, the checker refuses an `impl` with a lifetime parameter.
     ghost longest: { ℕ };
 
     ghost means: { Self → Meaning };

@@ -92,7 +92,8 @@ pub fn parent(listing: &Listing) -> Option<Part>
         .and_then(|entry| extended(entry.command))
 }
 
-// The place of the command that opens the container of that kind and name.
+// The place of the command that opens the container of that kind and name: apart, as in
+// `Command::opens`.
 pub fn opener(listing: &Listing, kind: Container, name: &[u8]) -> Option<usize>
     ensures { result ≡ opener_of (source_of listing.now) kind name.now (commands_of (entries_of listing.now)) }
 {

@@ -15,7 +15,7 @@ use text::lines::line_count;
 // How many containers may stand open.
 const DEEPEST: usize = 16;
 
-// Whether one of the commands opens a container of that kind and name.
+// Whether one of the commands opens a container of that kind and name: apart, as in `Command::opens`.
 fn declared(source: &[u8], kind: Container, name: &[u8], before: &[Entry]) -> bool
     ensures { result ≡ declared source.now kind name.now before.now }
 {

@@ -9,8 +9,8 @@ use std::alloc::{AllocError, AllocFailed};
 use text::fault::TextFault;
 
 impl Reason {
-    // 9 to 16, in the order in which the questions are asked. Programs print these numbers, so each
-    // is attached to its case here, and nowhere else.
+    // 9 to 16, in the order in which the questions are asked. Programs print these numbers, so the
+    // definition `number_of` gives each case its own: a rule of the project.
     pub fn number(self) -> u8
         ensures { result ≡ number_of self }
     {

@@ -38,8 +38,7 @@ impl Command {
         ensures { result ≡ span_of self }
     {
         match self {
-            Command::Open(Opener::Block(span), _) => Some(span),
-            Command::Refer(_, _, span) => Some(span),
+            Command::Open(Opener::Block(span), _) | Command::Refer(_, _, span) => Some(span),
             _ => None,
         }
     }

@@ -11,7 +11,8 @@ impl<R: Row> Table<R> {
     // Lets a row in and counts it; where the table is full, the greatest row has no place and is
     // given back.
     //
-    // So after any rows, one by one, the table holds the first of them all.
+    // So after any rows, one by one, the table holds the first of them all. That it does is a clause,
+    // and no fact of the type: which rows came is no part of a table.
     pub fn keep_first(&mut self, row: R) -> Option<R>
         ensures does { Keeps R.compare self.old row result self.new }
         ensures first { (all : List R) → Kept R.compare all self.old → Kept R.compare (all ++ row ∷ []) self.new }

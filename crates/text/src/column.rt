@@ -1,5 +1,6 @@
 // A column is stored counted from 0 and printed counted from 1, and only what writes a place turns
-// one into the other. So these are two structs, and no generic one: neither may stand for the other.
+// one into the other. So these are two structs, and no generic one, since neither may stand for the
+// other: a rule of the project.
 ghost use Rattle.std.specs.Prelude.{◌≡◌, ◌+◌};
 
 #[derive(Clone, Copy)]

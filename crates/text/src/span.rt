@@ -1,4 +1,5 @@
-// Where in its source a command was written: lines count from 1, columns from 0, and `from` to `to` are bytes.
+// Where in its source a command was written: lines count from 1, columns from 0, and `from` to `to`
+// are bytes. Numbers, and no slice, as in a `Part`: written out again, they are the record.
 use crate::column::StoredColumn;
 
 #[derive(Clone, Copy)]
