@@ -5,7 +5,8 @@ use crate::rows::{BUILT_IN, Known};
 use catalogue::{Catalogue, Kind, Refusal};
 
 impl Known {
-    // Whether this is the name, of this kind.
+    // Whether this is the name, of this kind. Written beside that of a `NumberedName`, since a `Known`
+    // is a tuple.
     pub fn is(&self, kind: Kind, name: &[u8]) -> bool
         ensures { result ≡ is_known (shown self.now) kind name.now }
     {

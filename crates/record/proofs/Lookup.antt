@@ -1,44 +1,11 @@
--- The table of the commands, row by row. Assumes nothing.
-use Rattle.std.proofs.Common.{◌≡◌, ℕ, Bool, true, false, cond, eqb, ◌==◌, find, List, [], ◌∷◌, map, Some, Option, sym, refl, ap, ◌∙◌}
-use Rattle.std.specs.Option.{option_map}
+-- The rule of the table of the commands. Assumes nothing.
+use Rattle.std.proofs.Common.{◌≡◌, ℕ, Bool, true, false, cond, eqb, List, [], ◌∷◌, Some, sym, refl, ap, ◌∙◌}
 use Rattle.std.proofs.lemmas.Bool.{eqb-true}
 use Rattle.std.proofs.lemmas.Option.{none-some}
-use Rattle.record.specs.declared.letter.Layout.{Layout}
 use Rattle.record.specs.declared.letter.Letter.{Letter}
 use Rattle.record.specs.declared.letter.Letter.TheVariants.{Extends, Block, PlainBlock, Component, Refer, Variable, Text, Close, End}
 use Rattle.record.specs.declared.letter.Reference.TheVariants.{Filter, Test, Function, Component as component, Include}
-use Rattle.record.specs.Letters.{layout_at, layout_of, letter_byte, letter_at, letter_in, letters, Rule}
-
--- the table as the code has it: each row is the layout of its letter
-abbrev pub rows : List Layout
-rows = map layout_of letters
-
-pub byte_of_layout : (l : Letter) → (layout_of l).byte ≡ letter_byte l
-byte_of_layout Extends = refl
-byte_of_layout Block = refl
-byte_of_layout PlainBlock = refl
-byte_of_layout Component = refl
-byte_of_layout (Refer kind) = refl
-byte_of_layout Variable = refl
-byte_of_layout Text = refl
-byte_of_layout Close = refl
-byte_of_layout End = refl
-
-chosen : (t : Bool) (l : Letter) (o : Option Letter) (p : Option Layout) → p ≡ option_map layout_of o → cond t (Some (layout_of l)) p ≡ option_map layout_of (cond t (Some l) o)
-chosen true l o p e = refl
-chosen false l o p e = e
-
--- a search among the rows finds the layout of the letter that a search among the letters finds
-row_is_layout : (b : ℕ) (ls : List Letter) → find (λ row. row.byte == b) (map layout_of ls) ≡ option_map layout_of (letter_in b ls)
-row_is_layout b [] = refl
-row_is_layout b (l ∷ ls) =
-    ap (λ (k : ℕ). cond (k == b) (Some (layout_of l)) (find (λ row. row.byte == b) (map layout_of ls))) (byte_of_layout l)
-    ∙ chosen (letter_byte l == b) l (letter_in b ls) (find (λ row. row.byte == b) (map layout_of ls)) (row_is_layout b ls)
-
-pub found_row : (b : ℕ) → find (λ row. row.byte == b) rows ≡ layout_at b
-found_row b = row_is_layout b letters
-
--- ---- the rule of the table
+use Rattle.record.specs.Letters.{letter_byte, letter_at, letter_in, letters, Rule}
 
 -- each letter's byte stands for that letter: no two letters share one
 pub letter_known : (l : Letter) → letter_at (letter_byte l) ≡ Some l
