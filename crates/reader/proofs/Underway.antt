@@ -52,6 +52,14 @@ ended_whole es rows at bs h g = grind arith
 ended_early : (es : List Entry) (rows : List Nest) (at : ℕ) (bs : List ℕ) → (0 < length rows) ⊎ (0 < length bs) → ended es rows at bs ≡ refused Unfinished at
 ended_early es rows at bs h = grind arith
 
+-- each command takes a byte at least
+pub shorter : (r r' : Reader) (es : List Entry) (e : Entry) → Next r r' es (Ok e) → length r'.rest.now < length r.rest.now
+shorter r r' es e h = go r.rest.now refl h
+  where
+    go : (rest : List ℕ) → r.rest.now ≡ rest → Stepped r r' es rest (Ok e) → length r'.rest.now < length r.rest.now
+    go [] is t = absurd t
+    go (b ∷ bs) is t = omega (arith, ap length is, ap length t.3.rest, length-drop (width (letter_of e.command)) bs)
+
 -- the commands `es` were read, and what is left gives the whole answer
 pub record Underway (source bytes : List ℕ) (es : List Entry) (r : Reader) : Type 0 where
   pub text : r.source.now ≡ source

@@ -212,7 +212,7 @@ impl<'a> Reader<'a> {
             lines: line_count(source),
             bytes,
             rest: bytes,
-            nests: [unused; DEEPEST],
+            nests: [unused; 16],
             depth: 0,
             body: 0,
         }
