@@ -1,12 +1,12 @@
 -- A key among rows in order: how each row stands to it.
 use Rattle.std.proofs.Common.{◌≡◌, ◌≢◌, ℕ, zero, suc, ◌+◌, ◌<◌, ◌≤◌, true, List, [], ◌∷◌, length, get_or, Some, None, Ok, Err, Option, Result, Ordering, Less, Equal, Greater, sym, refl, ap, ◌∙◌, ⊎_elim, arith}
 use Rattle.std.proofs.lemmas.Bool.{cases_lt}
+use Rattle.std.proofs.lemmas.List.{get_or_read}
 use Rattle.std.proofs.lemmas.List.Sorted.{IsNonDecreasingBy-from_all_adjacent}
 use Rattle.std.specs.Cmp.{alike_right}
 use Rattle.std.specs.Ordering.{is_le, is_lt, ordering_index}
-use Rattle.std.specs.List.{All}
+use Rattle.std.specs.List.{All, AllWithin}
 use Rattle.std.specs.List.Sorted.{IsBinarySearchResult, IsNonDecreasingBy, IsPartitionPoint, IsSearchInRange}
-use Rattle.std.specs.Result.{result_ok}
 use Rattle.table.specs.Calls.{Finds, Found, Searched}
 use Rattle.table.specs.Order.{Ascending, Strict, seek}
 use Rattle.table.specs.declared.rows.Row.{Ghosts}
@@ -36,10 +36,13 @@ module _ {X : Type 0} (c : X → X → Ordering) (stands : X → Ordering) (rise
       IsNonDecreasingBy-from_all_adjacent (λ y. ordering_index (stands y)) xs
       (λ k d l. rises (get_or xs k d) (get_or xs (k + 1) d) (pairs (λ x y. is_le (c x y)) xs a k (k + 1) d (omega arith) l))
 
-  -- what a binary search answers
-  pub finds : (xs : List X) (r : Result ℕ ℕ) → IsSearchInRange r (length xs) → IsBinarySearchResult stands xs r → Finds c stands xs (result_ok r)
-  finds xs (Ok i) b h = (b, h)
-  finds xs (Err i) b h = λ a. none_at stands xs i (h (climbs xs a))
+  -- as the row at m stands, so do those before it, or those after it
+  module _ (xs : List X) (m : ℕ) (y : X) (l : m < length xs) (is : y ≡ get_or xs m y) (a : Ascending c xs) where
+    pub all_less : stands y ≡ Less → AllWithin (λ z. stands z ≡ Less) xs 0 (m + 1)
+    all_less e k d b h = let up = climbs xs a k m d (omega arith) l in let at = get_or_read xs m y l is d in grind arith
+
+    pub all_greater : stands y ≡ Greater → AllWithin (λ z. stands z ≡ Greater) xs m (length xs)
+    all_greater e k d b h = let up = climbs xs a m k d b h in let at = get_or_read xs m y l is d in grind arith
 
   module _ (one : (x y : X) → stands x ≡ Equal → stands y ≡ Equal → c x y ≡ Equal) where
     -- where no two rows tie, the rows before the one at the key are less

@@ -31,6 +31,18 @@ impl<R: Row> Table<R> {
         ensures finds { Finds R.Row.compare (P.Probe.stands probe.now) (held self.now) result }
         ensures exact { Strict R.Row.compare (held self.now) → result ≡ seek (P.Probe.stands probe.now) 0 (held self.now) }
     {
-        self.rows.binary_search_by(|row| probe.compared(row)).ok()
+        // No call of the library's searches: a probe that meets its row early stops here, and they
+        // never do.
+        let mut low = 0;
+        let mut high = self.rows.len();
+        while low < high {
+            let mid = low + (high - low) / 2;
+            match probe.compared(&self.rows[mid]) {
+                Ordering::Less => low = mid + 1,
+                Ordering::Equal => return Some(mid),
+                Ordering::Greater => high = mid,
+            }
+        }
+        None
     }
 }
