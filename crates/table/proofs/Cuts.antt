@@ -1,11 +1,12 @@
 -- The first of the rows that came: a cut list takes one more row as the whole would.
-use Rattle.std.proofs.Common.{◌≡◌, ℕ, zero, suc, ◌+◌, ◌≤◌, true, false, cond, List, [], ◌∷◌, ◌++◌, length, take, Option, Ordering, sym, refl, ap, ◌∙◌, arith}
+use Rattle.std.proofs.Common.{◌≡◌, ℕ, zero, suc, ◌+◌, ◌-◌, ◌^◌, ◌≤◌, min, true, false, cond, List, [], ◌∷◌, ◌++◌, length, take, Ordering, sym, refl, ap, ◌∙◌, arith}
 use Rattle.std.proofs.lemmas.List.{length_push, take_at, take-take}
 use Rattle.std.proofs.lemmas.List.Edits.{insert-append_left, length-insert}
 use Rattle.std.specs.List.{insert}
 use Rattle.std.specs.Ordering.{is_le}
 use Rattle.table.specs.declared.ordered.Table.{Table}
-use Rattle.table.specs.Calls.{Keeps, Kept}
+use Rattle.table.specs.Calls.{Kept}
+use Rattle.table.specs.Held.{held}
 use Rattle.table.specs.Order.{insert_in, laid, sorted}
 
 module _ {X : Type 0} (c : X → X → Ordering) where
@@ -21,11 +22,11 @@ module _ {X : Type 0} (c : X → X → Ordering) where
   laid_push xs (z ∷ ys) y = laid_push (insert_in c z xs) ys y
 
   -- one more row comes to a table that kept the first
-  pub kept_more : (x : X) (r : Option X) (t t' : Table X) → Keeps c t x r t' → (all : List X) → Kept c all t → Kept c (all ++ x ∷ []) t'
-  kept_more x r t t' more all k =
+  pub kept_more : (all : List X) (x : X) (t t' : Table X) → held t' ≡ take t.limit (insert_in c x (held t)) → t'.limit ≡ t.limit → t'.came ≡ min (t.came + 1) (2 ^ 64 - 1) → Kept c all t → Kept c (all ++ x ∷ []) t'
+  kept_more all x t t' rows limit came k =
       record {
-        rows = rw (more.limit, laid_push [] all x) (more.rows ∙ ap (λ zs. take t.limit (insert_in c x zs)) k.rows ∙ cut_in t.limit x (sorted c all));
-        came = omega (arith, k.came, more.came, length_push all x);
+        rows = rw (limit, laid_push [] all x) (rows ∙ ap (λ zs. take t.limit (insert_in c x zs)) k.rows ∙ cut_in t.limit x (sorted c all));
+        came = omega (arith, length_push all x);
       }
 
 -- the last row makes room for the one that is let in
