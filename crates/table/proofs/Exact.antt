@@ -35,4 +35,4 @@ module _ {X : Type 0} (row : Ghosts X) (x : X) (xs : List X) (s : Strict row.com
   nowhere i h =
       let a = h.1 (ascending_from_strict row.compare xs s) in
       let none = none_tied row.compare x xs (apart row x xs a.1) in
-      (none.0, none.1 ∙ sym (parted row.compare x xs i h.0 a.0))
+      (none.0, none.1 ∙ sym (parted row.compare x xs i a.0))

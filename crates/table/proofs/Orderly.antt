@@ -1,9 +1,10 @@
 -- What keeps rows in order.
-use Rattle.std.proofs.Common.{◌≡◌, ◌≢◌, ℕ, zero, suc, ◌<◌, Bool, true, false, cond, List, [], ◌∷◌, ◌++◌, length, get_or, take, drop, set, Ordering, Less, Equal, sym, refl, ap, ◌∙◌, subst, arith}
-use Rattle.std.proofs.lemmas.List.{get_or_append_left, length-append, take-append-drop}
-use Rattle.std.proofs.lemmas.List.Elements.{All-from_recursion, All-set, recursion_from_All}
+use Rattle.std.proofs.Common.{◌≡◌, ◌≢◌, ℕ, zero, suc, ◌+◌, ◌<◌, Bool, true, false, cond, List, [], ◌∷◌, ◌++◌, length, get_or, take, drop, set, Ordering, Less, Equal, sym, refl, ap, ◌∙◌, subst, arith}
+use Rattle.std.proofs.lemmas.List.{get_or_append_left, get_or-drop, get_or-take, length-append, length-drop, length-take, take-append-drop}
+use Rattle.std.proofs.lemmas.List.Elements.{All-cons, All-from_recursion, All-set, recursion_from_All}
 use Rattle.std.proofs.lemmas.List.Quantifiers.{all_pairs_remove}
-use Rattle.std.specs.List.{remove, All, AllByRecursion, AllPairs}
+use Rattle.std.proofs.lemmas.List.Sorted.{All-permutation, IsPermutation-insert}
+use Rattle.std.specs.List.{insert, remove, All, AllByRecursion, AllPairs, AllWithin}
 use Rattle.std.specs.Cmp.{IsTotalOrder, alike_right, upto}
 use Rattle.std.specs.Ordering.{is_le, is_lt, ordering_reverse}
 use Rattle.table.specs.declared.rows.Row.{Ghosts}
@@ -22,6 +23,14 @@ module _ {X : Type 0} (t : X → X → Bool) where
   order_by (x ∷ xs) p =
       (recursion_from_All (λ y. t x y ≡ true) xs (λ j d l. p 0 (suc j) d (omega arith) (omega arith)), order_by xs (λ i j d h l. p (suc i) (suc j) d (omega arith) (omega arith)))
 
+  -- a row let in at a place that parts the rows before it from those after it
+  pub order_inserted : (x : X) (i : ℕ) (xs : List X) → InOrder t xs → AllByRecursion (λ y. t y x ≡ true) (take i xs) → AllByRecursion (λ y. t x y ≡ true) (drop i xs) → InOrder t (insert xs i x)
+  order_inserted x zero xs o h k = (k, o)
+  order_inserted x (suc i) [] o h k = (tt, tt)
+  order_inserted x (suc i) (y ∷ ys) o h k =
+      let each = All-cons (λ z. t y z ≡ true) x ys h.0 (All-from_recursion (λ z. t y z ≡ true) ys o.0) in
+      (recursion_from_All (λ z. t y z ≡ true) (insert ys i x) (All-permutation (λ z. t y z ≡ true) (x ∷ ys) (insert ys i x) (IsPermutation-insert ys i x) each), order_inserted x i ys o.1 h.1 k)
+
   pub order_removed : (i : ℕ) (xs : List X) → i < length xs → InOrder t xs → InOrder t (remove xs i)
   order_removed i xs l o = order_by (remove xs i) (all_pairs_remove (λ x y. t x y ≡ true) xs i l (pairs xs o))
 
@@ -32,8 +41,19 @@ module _ {X : Type 0} (t : X → X → Bool) where
       let both = pairs (ys ++ zs) (subst (InOrder t) e o) i j d h (omega (arith, length-append ys zs)) in
       rw (get_or_append_left ys zs d i (omega arith), get_or_append_left ys zs d j l) at both)
 
+pub order_weaker : {X : Type 0} (t u : X → X → Bool) → ((x y : X) → t x y ≡ true → u x y ≡ true) → (xs : List X) → InOrder t xs → InOrder u xs
+order_weaker t u w xs o = order_by u xs (λ i j d h l. w (get_or xs i d) (get_or xs j d) (pairs t xs o i j d h l))
+
 pub ascending_from_strict : {X : Type 0} (c : X → X → Ordering) (xs : List X) → Strict c xs → Ascending c xs
-ascending_from_strict c xs s = order_by (λ x y. is_le (c x y)) xs (λ i j d h l. let e = pairs (λ x y. is_lt (c x y)) xs s i j d h l in grind arith)
+ascending_from_strict c xs s = order_weaker (λ x y. is_lt (c x y)) (λ x y. is_le (c x y)) (λ x y h. grind arith) xs s
+
+-- what holds of each row of a part holds of the part
+pub every_take : {X : Type 0} (P : X → Type 0) (xs : List X) (i : ℕ) (d : X) → AllWithin P xs 0 i → AllByRecursion P (take i xs)
+every_take P xs i d h =
+    recursion_from_All P (take i xs) (λ k e l. let below : k < i = omega (arith, length-take i xs) in rw (get_or-take i xs k e below) (h k e (omega arith) below))
+
+pub every_drop : {X : Type 0} (P : X → Type 0) (xs : List X) (i : ℕ) (d : X) → AllWithin P xs i (length xs) → AllByRecursion P (drop i xs)
+every_drop P xs i d h = recursion_from_All P (drop i xs) (λ k e l. rw (get_or-drop i xs k e) (h (i + k) e (omega arith) (omega (arith, length-drop i xs))))
 
 -- ---- a row x that is let in passes the test with the first row that is greater, and so with the rest
 module _ {X : Type 0} (c : X → X → Ordering) (t : X → X → Bool) (x : X) (passes : (y : X) → is_le (c y x) ≡ false → t x y ≡ true) (chains : (y z : X) → t x y ≡ true → t y z ≡ true → t x z ≡ true) where
@@ -57,13 +77,23 @@ total_by c flip trans alike = record { antisymm = flip; trans = trans; congr = a
 pub total : {X : Type 0} (row : Ghosts X) → IsTotalOrder row.compare
 total row = total_by row.compare row.flip row.trans row.alike
 
+-- ---- two answers, one of them turned round
+pub not_greater : (a b : Ordering) → a ≡ ordering_reverse b → is_le b ≡ true → is_lt a ≡ false
+not_greater a b e h = grind arith
+
+pub le_turned : (a b : Ordering) → a ≡ ordering_reverse b → is_le b ≡ false → is_le a ≡ true
+le_turned a b e h = grind arith
+
+pub le_total : {X : Type 0} {R : X → X → Ordering} (o : IsTotalOrder R) → (x y : X) → is_le (R x y) ≡ false → is_le (R y x) ≡ true
+le_total {R = R} o x y h = le_turned (R y x) (R x y) (o.antisymm y x) h
+
 module _ {X : Type 0} (row : Ghosts X) (x : X) where
   less : (y : X) → is_le (row.compare y x) ≡ false → row.compare x y ≡ Less
   less y h = let e = row.flip x y in grind arith
 
   pub ascending_in : (xs : List X) → Ascending row.compare xs → Ascending row.compare (insert_in row.compare x xs)
   ascending_in xs a =
-      order_in row.compare (λ y z. is_le (row.compare y z)) x (λ y h. ap is_le (less y h)) (λ y z h k. grind (arith, upto (total row) x y z)) xs (λ k d l e. e) a
+      order_in row.compare (λ y z. is_le (row.compare y z)) x (λ y h. le_total (total row) y x h) (λ y z h k. grind (arith, upto (total row) x y z)) xs (λ k d l e. e) a
 
   pub ascending_cut : (n : ℕ) (xs : List X) → Ascending row.compare xs → Ascending row.compare (take n (insert_in row.compare x xs))
   ascending_cut n xs a =
@@ -80,7 +110,7 @@ module _ {X : Type 0} (row : Ghosts X) (x : X) where
       (λ k d l e. let m = apart xs n k d l in grind arith) s
 
   -- a row that ties with the one at i takes its place
-  order_set : (f : Ordering → Bool) (i : ℕ) (d : X) (xs : List X) → i < length xs → row.compare (get_or xs i d) x ≡ Equal → InOrder (λ y z. f (row.compare y z)) xs → InOrder (λ y z. f (row.compare y z)) (set xs i x)
+  pub order_set : (f : Ordering → Bool) (i : ℕ) (d : X) (xs : List X) → i < length xs → row.compare (get_or xs i d) x ≡ Equal → InOrder (λ y z. f (row.compare y z)) xs → InOrder (λ y z. f (row.compare y z)) (set xs i x)
   order_set f i d [] l e a = absurd (omega arith)
   order_set f zero d (y ∷ ys) l e a =
       (recursion_from_All (λ z. f (row.compare x z) ≡ true) ys (λ k d l. ap f (sym (row.alike y x (get_or ys k d) e)) ∙ All-from_recursion (λ z. f (row.compare y z) ≡ true) ys a.0 k d l), a.1)

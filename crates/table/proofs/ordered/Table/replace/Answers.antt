@@ -40,7 +40,7 @@ returns-else-is_full g c =
     let i = c.in-Err.i in
     let h = c.in-Err.ensures in
     let room : nat_lt (length xs) t.limit ≡ true = search rules in
-    let rows = λ (a : Ascending row.compare xs). c.put.ensures.rows ∙ parted row.compare x xs i h.0 (h.1 a).0 in
+    let rows = λ (a : Ascending row.compare xs). c.put.ensures.rows ∙ parted row.compare x xs i (h.1 a).0 in
     record {
       does = (search rules, (i, h.0, c.put.ensures), λ a. ((h.1 a).1, rows a));
       exact = λ s. let n = nowhere row x xs s i h in record { answer = rw (n.0, room) refl; rows = c.put.ensures.rows ∙ sym n.1 };
