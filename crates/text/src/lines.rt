@@ -8,7 +8,8 @@ pub fn line_count(source: &[u8]) -> usize
     ensures count { result ≡ breaks source.now + 1 }
     ensures lines { result ≡ length (lines source.now) }
 {
-    source.iter().filter(|&&byte| byte == b'\n').count() + 1
+    let found: usize = source.iter().map(|&byte| usize::from(byte == b'\n')).sum();
+    found + 1
 }
 
 // Line `n`, counted from 1, without its 0A.
