@@ -56,7 +56,12 @@ impl Ord for Weighed {
     ghost matches_eq = { Prim.search (comparing, rules) };
 
     fn cmp(&self, other: &Weighed) -> Ordering {
-        self.scale().cmp(&other.scale())
+        // By hand: going by the keys' derived order takes twice the steps where rows are compared in
+        // a loop, as `insert` and `keep_first` of a table do.
+        match self.weight.cmp(&other.weight) {
+            Ordering::Equal => self.tag.cmp(&other.tag),
+            unequal => unequal,
+        }
     }
 }
 
