@@ -18,7 +18,7 @@ module _ {X : Type 0} (t : X → X → Bool) where
   pairs (x ∷ xs) o zero (suc j) d h l = All-from_recursion (λ y. t x y ≡ true) xs o.0 j d (omega arith)
   pairs (x ∷ xs) o (suc i) (suc j) d h l = pairs xs o.1 i j d (omega arith) (omega arith)
 
-  order_by : (xs : List X) → AllPairs (λ x y. t x y ≡ true) xs → InOrder t xs
+  pub order_by : (xs : List X) → AllPairs (λ x y. t x y ≡ true) xs → InOrder t xs
   order_by [] p = tt
   order_by (x ∷ xs) p =
       (recursion_from_All (λ y. t x y ≡ true) xs (λ j d l. p 0 (suc j) d (omega arith) (omega arith)), order_by xs (λ i j d h l. p (suc i) (suc j) d (omega arith) (omega arith)))
@@ -57,11 +57,11 @@ every_drop P xs i d h = recursion_from_All P (drop i xs) (λ k e l. rw (get_or-d
 
 -- ---- a row x that is let in passes the test with the first row that is greater, and so with the rest
 module _ {X : Type 0} (c : X → X → Ordering) (t : X → X → Bool) (x : X) (passes : (y : X) → is_le (c y x) ≡ false → t x y ≡ true) (chains : (y z : X) → t x y ≡ true → t y z ≡ true → t x z ≡ true) where
-  all_in : (P : X → Type 0) (xs : List X) → P x → AllByRecursion P xs → AllByRecursion P (insert_in c x xs)
+  pub all_in : (P : X → Type 0) (xs : List X) → P x → AllByRecursion P xs → AllByRecursion P (insert_in c x xs)
   all_in P [] p h = (p, tt)
   all_in P (y ∷ ys) p h = elim (is_le (c y x)) as (λ b. AllByRecursion P (cond b (y ∷ insert_in c x ys) (x ∷ y ∷ ys))) [ true ↦ (h.0, all_in P ys p h.1) | false ↦ (p, h) ]
 
-  order_in : (xs : List X) → All (λ y. is_le (c y x) ≡ true → t y x ≡ true) xs → InOrder t xs → InOrder t (insert_in c x xs)
+  pub order_in : (xs : List X) → All (λ y. is_le (c y x) ≡ true → t y x ≡ true) xs → InOrder t xs → InOrder t (insert_in c x xs)
   order_in [] b o = (tt, tt)
   order_in (y ∷ ys) b o =
       elim (is_le (c y x)) as (λ q. is_le (c y x) ≡ q → InOrder t (cond q (y ∷ insert_in c x ys) (x ∷ y ∷ ys))) [
