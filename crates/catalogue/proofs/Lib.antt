@@ -1,3 +1,4 @@
+pub mod Answered
 pub mod Laws
 mod Listings
 pub mod Sames
