@@ -1,5 +1,5 @@
 -- The table of the commands: a search through its rows, and its rule. Assumes nothing.
-use Rattle.std.proofs.Common.{◌≡◌, ℕ, ◌+◌, ◌<◌, ◌≤◌, Bool, true, false, cond, eqb, List, [], ◌∷◌, map, length, get_or, drop, find, Some, None, sym, refl, ap, ◌∙◌}
+use Rattle.std.proofs.Common.{◌≡◌, ℕ, ◌+◌, ◌<◌, ◌≤◌, Bool, true, false, cond, eqb, List, [], ◌∷◌, map, length, get_or, drop, find, Some, None, sym, refl, ap, ◌∙◌, arith}
 use Rattle.std.proofs.lemmas.Bool.{cond-true, cond-false, eqb-true}
 use Rattle.std.proofs.lemmas.List.{at_drop_more, at_drop_all}
 use Rattle.std.proofs.lemmas.Option.{none-some}
@@ -12,6 +12,9 @@ use Rattle.record.specs.Letters.{layout_of, letter_byte, letter_at, letter_in, l
 -- the table as the code has it: each row is the layout of its letter
 abbrev pub rows : List Layout
 rows = map layout_of letters
+
+pub byte_of_layout : (l : Letter) → (layout_of l).byte ≡ letter_byte l
+byte_of_layout l = grind arith
 
 -- one turn of a search through the table
 module _ (test : Layout → Bool) (i : ℕ) where
