@@ -1,5 +1,7 @@
 -- The entries that name a container are its chunk. Assumes nothing.
-use Rattle.std.proofs.Common.{◌≡◌, Bool, true, false, cond, eqb, List, [], ◌∷◌, filter, refl, ◌∙◌}
+use Rattle.std.proofs.Common.{◌≡◌, Bool, true, false, cond, eqb, List, [], ◌∷◌, filter, refl, ap, ◌∙◌}
+use Rattle.std.specs.Bool.{then_some}
+use Rattle.std.specs.List.{cons_option, filter_map}
 use Rattle.std.proofs.lemmas.Bool.{and_parts}
 use Rattle.record.specs.declared.command.Entry.{Entry}
 use Rattle.record.specs.declared.command.Owner.{Owner}
@@ -23,3 +25,12 @@ kept_chunk owner before (e ∷ es) h =
     let more = kept_chunk owner (e ∷ before) es parts.1 in
     commands_kept (named owner e) e (filter (named owner) es)
     ∙ (λ i. cond (same_owner owner (is i)) (e.command ∷ more i) (more i))
+
+-- the entries for which a test gives the entry are those that pass it
+pub filter_map-test : (test : Entry → Bool) (es : List Entry) → filter_map (λ e. then_some (test e) e) es ≡ filter test es
+filter_map-test test [] = refl
+filter_map-test test (e ∷ es) = go (test e) (filter_map-test test es)
+  where
+    go : (t : Bool) → filter_map (λ e. then_some (test e) e) es ≡ filter test es → cons_option (then_some t e) (filter_map (λ e. then_some (test e) e) es) ≡ cond t (e ∷ filter test es) (filter test es)
+    go true h = ap (λ es. e ∷ es) h
+    go false h = h
