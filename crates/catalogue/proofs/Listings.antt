@@ -24,7 +24,7 @@ module _ (es : List Entry) (k : Kind) (n : List ℕ) where
   lookup_some i h = grind (arith, nat_tests, find_at (λ z. spells z k n) es, slice_get_cases es (position_or_len (λ z. spells z k n) es), h)
 
   module _ (k' : Kind) (n' : List ℕ) where
-    lookup_set : (x i : ℕ) (e : Entry) → Some i ≡ position (λ z. spells z k n) es → e ≡ get_or es i e → (b : Bool) → same k n k' n' ≡ b → lookup (set es i (record { kind = e.kind; name = e.name; number = x })) k' n' ≡ cond b (Some x) (lookup es k' n')
+    pub lookup_set : (x i : ℕ) (e : Entry) → Some i ≡ position (λ z. spells z k n) es → e ≡ get_or es i e → (b : Bool) → same k n k' n' ≡ b → lookup (set es i (record { kind = e.kind; name = e.name; number = x })) k' n' ≡ cond b (Some x) (lookup es k' n')
     lookup_set x i e h r true s =
         let p = position-Some (λ z. spells z k n) es i e (sym h) in
         let named : spells e k n ≡ true = ap (λ z. spells z k n) r ∙ p.1 in
@@ -37,13 +37,13 @@ module _ (es : List Entry) (k : Kind) (n : List ℕ) where
         let other : spells e k' n' ≡ false = at_same (λ k n. same k n k' n') e.kind e.name.items k n named ∙ s in
         ap (option_map (λ z. z.number)) (find_past (λ z. spells z k' n') es i (record { kind = e.kind; name = e.name; number = x }) e (ap (λ z. spells z k' n') (sym r) ∙ other) other)
 
-    lookup_push : (e : Entry) → None ≡ position (λ z. spells z k n) es → e.kind ≡ k → e.name.items ≡ n → (b : Bool) → same k n k' n' ≡ b → lookup (es ++ e ∷ []) k' n' ≡ cond b (Some e.number) (lookup es k' n')
+    pub lookup_push : (e : Entry) → None ≡ position (λ z. spells z k n) es → e.kind ≡ k → e.name.items ≡ n → (b : Bool) → same k n k' n' ≡ b → lookup (es ++ e ∷ []) k' n' ≡ cond b (Some e.number) (lookup es k' n')
     lookup_push e h p q true s = grind (arith, common_steps, find-append (λ z. spells z k' n') es (e ∷ []), sym (at_same (lookup es) k n k' n' s) ∙ lookup_none h)
     lookup_push e h p q false s = grind (arith, common_steps, find-append (λ z. spells z k' n') es (e ∷ []))
 
   module _ (p p' : ℕ) where
     -- a list whose look-ups are so changed means what is written
-    wrote : (es' : List Entry) (x : ℕ) → ((k' : Kind) (n' : List ℕ) → lookup es' k' n' ≡ cond (same k n k' n') (Some x) (lookup es k' n')) → p' ≡ p - cond (is_some (lookup es k n)) 0 1 → listed es' p' ≡ write (listed es p) k n x
+    pub wrote : (es' : List Entry) (x : ℕ) → ((k' : Kind) (n' : List ℕ) → lookup es' k' n' ≡ cond (same k n k' n') (Some x) (lookup es k' n')) → p' ≡ p - cond (is_some (lookup es k n)) 0 1 → listed es' p' ≡ write (listed es p) k n x
     wrote es' x h e = same_meaning (listed es' p') (write (listed es p) k n x) h (λ k' n'. grind (arith, nat_tests, h k' n')) e
 
     pub set_writes : (x i : ℕ) (e : Entry) → Some i ≡ position (λ z. spells z k n) es → e ≡ get_or es i e → p' ≡ p → listed (set es i (record { kind = e.kind; name = e.name; number = x })) p' ≡ write (listed es p) k n x

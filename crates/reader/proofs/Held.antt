@@ -11,7 +11,7 @@ length_rows zero ns = refl
 length_rows (suc d) ns = ap suc (length_rows d ns)
 
 -- a row that is not among the first d
-rows_set_past : (d i : ℕ) (ns : List Nest) (r : Nest) → d ≤ i → rows_of d (set ns i r) ≡ rows_of d ns
+pub rows_set_past : (d i : ℕ) (ns : List Nest) (r : Nest) → d ≤ i → rows_of d (set ns i r) ≡ rows_of d ns
 rows_set_past zero i ns r h = refl
 rows_set_past (suc d) i ns r h =
     let other : d ≢ i = omega arith in

@@ -10,7 +10,7 @@ use Rattle.table.specs.Held.{held}
 use Rattle.table.specs.Order.{insert_in, laid, sorted}
 
 module _ {X : Type 0} (c : X → X → Ordering) where
-  cut_in : (n : ℕ) (x : X) (xs : List X) → take n (insert_in c x (take n xs)) ≡ take n (insert_in c x xs)
+  pub cut_in : (n : ℕ) (x : X) (xs : List X) → take n (insert_in c x (take n xs)) ≡ take n (insert_in c x xs)
   cut_in zero x xs = refl
   cut_in (suc n) x [] = refl
   cut_in (suc n) x (y ∷ ys) =
