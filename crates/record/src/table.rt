@@ -102,8 +102,8 @@ const LAYOUTS: [Layout; 13] = [
 // The row that has this byte. Apart from `layout`, so that its clause speaks of the table as it is
 // written.
 //
-// A loop over the constant, since `find` over its iterator takes a third longer, and `reader` asks
-// at each command.
+// A loop over the constant: `find` over its iterator takes a third more instructions, and `reader`
+// asks at each command.
 fn row_of(byte: u8) -> Option<Layout>
     ensures { result ≡ find (λ row. row.byte == byte) LAYOUTS }
 {

@@ -10,7 +10,7 @@ use Rattle.table.proofs.Seeking.{own_before}
 
 module _ {X : Type 0} (c : X → X → Ordering) (x : X) where
   -- the row at i ties with x, and those before it are less
-  tied : (xs : List X) (i : ℕ) (d : X) → i < length xs → c (get_or xs i d) x ≡ Equal → ((j : ℕ) → j < i → c (get_or xs j d) x ≡ Less) → (at_key c x xs ≡ Some (get_or xs i d)) × (put_in c x xs ≡ set xs i x)
+  pub tied : (xs : List X) (i : ℕ) (d : X) → i < length xs → c (get_or xs i d) x ≡ Equal → ((j : ℕ) → j < i → c (get_or xs j d) x ≡ Less) → (at_key c x xs ≡ Some (get_or xs i d)) × (put_in c x xs ≡ set xs i x)
   tied [] i d l e b = absurd (omega arith)
   tied (y ∷ ys) zero d l e b = (rw (e, at_key) refl, rw (e, put_in) refl)
   tied (y ∷ ys) (suc i) d l e b =
@@ -18,7 +18,7 @@ module _ {X : Type 0} (c : X → X → Ordering) (x : X) where
       let h = b 0 (omega arith) in
       (rw (h, at_key) n.0, rw (h, put_in) (ap (λ zs. y ∷ zs) n.1))
 
-  none_tied : (xs : List X) → All (λ y. c y x ≢ Equal) xs → (at_key c x xs ≡ None) × (put_in c x xs ≡ insert_in c x xs)
+  pub none_tied : (xs : List X) → All (λ y. c y x ≢ Equal) xs → (at_key c x xs ≡ None) × (put_in c x xs ≡ insert_in c x xs)
   none_tied [] n = (refl, refl)
   none_tied (y ∷ ys) n =
       let m = n 0 y (omega arith) in

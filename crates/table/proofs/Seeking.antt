@@ -14,7 +14,7 @@ use Rattle.table.proofs.Orderly.{apart, ascending_from_strict, pairs, total}
 
 module _ {X : Type 0} (stands : X → Ordering) where
   -- among rows that are parted in two, none stands at the key
-  none_at : (xs : List X) (i : ℕ) → IsPartitionPoint (λ y. stands y ≡ Less) (λ y. stands y ≡ Greater) xs i → All (λ y. stands y ≢ Equal) xs
+  pub none_at : (xs : List X) (i : ℕ) → IsPartitionPoint (λ y. stands y ≡ Less) (λ y. stands y ≡ Greater) xs i → All (λ y. stands y ≢ Equal) xs
   none_at xs i p k d l e = ⊎_elim (λ h. let q = p.0 k d (omega arith) h in cc) (λ h. let q = p.1 k d h l in cc) (cases_lt k i)
 
   pub seek_there : (xs : List X) (k i : ℕ) (d : X) → i < length xs → stands (get_or xs i d) ≡ Equal → ((j : ℕ) → j < i → stands (get_or xs j d) ≡ Less) → seek stands k xs ≡ Some (k + i)

@@ -25,7 +25,7 @@ module _ {X : Type 0} (c : X → X → Ordering) where
       let more = IsPermutation-append_left ys (xs ++ y ∷ []) (insert_in c y xs) (same_in y xs) in
       IsPermutation-trans (xs ++ y ∷ ys) (insert_in c y xs ++ ys) (laid c (insert_in c y xs) ys) (rw append_assoc at more) (same_laid (insert_in c y xs) ys)
 
-none_pass : {X : Type 0} (p : X → Bool) (xs : List X) → All (λ y. p y ≡ false) xs → filter p xs ≡ []
+pub none_pass : {X : Type 0} (p : X → Bool) (xs : List X) → All (λ y. p y ≡ false) xs → filter p xs ≡ []
 none_pass p [] h = refl
 none_pass p (x ∷ xs) h = let e = h 0 x (omega arith) in grind (arith, none_pass p xs (λ k d l. h (suc k) d (omega arith)))
 

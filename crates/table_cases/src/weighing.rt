@@ -56,8 +56,8 @@ impl Ord for Weighed {
     ghost matches_eq = { Prim.search (comparing, rules) };
 
     fn cmp(&self, other: &Weighed) -> Ordering {
-        // By hand: going by the keys' derived order takes twice the steps where rows are compared in
-        // a loop, as `insert` and `keep_first` of a table do.
+        // By hand: the keys' derived order takes twice the steps where rows are compared in a loop,
+        // as `insert` and `keep_first` of a table do.
         match self.weight.cmp(&other.weight) {
             Ordering::Equal => self.tag.cmp(&other.tag),
             unequal => unequal,
