@@ -101,18 +101,10 @@ const LAYOUTS: [Layout; 13] = [
 
 // The row that has this byte. Apart from `layout`, so that its clause speaks of the table as it is
 // written.
-//
-// A loop over the constant: `find` over its iterator takes a third more instructions, and `reader`
-// asks at each command.
 fn row_of(byte: u8) -> Option<Layout>
     ensures { result ≡ find (λ row. row.byte == byte) LAYOUTS }
 {
-    for row in LAYOUTS {
-        if row.byte == byte {
-            return Some(row);
-        }
-    }
-    None
+    LAYOUTS.iter().copied().find(|row| row.byte == byte)
 }
 
 // The layout of the command that the byte stands for.
